@@ -1,0 +1,225 @@
+-- Lists that lose, gain or change one element: their lengths, what holds of each element, and their order; then the order of every map.
+use mathlib.Core.Path.{_≡_, refl, sym, ap, subst}
+use mathlib.Core.Bool.{Bool, true, false, not, _&&_, _||_}
+use mathlib.Core.Option.{Option, none, some}
+use mathlib.Core.List.{List, [], _∷_, _++_, map}
+use Prim.Native.Nat.{ℕ, suc, _+_, _≤_, _<_}
+use native.Mathlib.Omega.{arith}
+use lib.Dec.{T, eqb, leb, ltb, leb→le, nleb→lt, ltb→lt, nltb→le, lt→ltb}
+use lib.ListN.{length}
+use Rattle.rules.specs.Base.{if_then_else_, option, Bytes, same, find, without, alter, any, keep, All}
+use Rattle.rules.specs.Std.{before, Ascending, insert}
+use Rattle.rules.proofs.Lists.{if-by, eqb-sound, eqb-same}
+use Rattle.rules.proofs.Peers.{same-sound, same-refl}
+
+-- ---- tests of numbers as facts
+
+pub T-of : (b : Bool) → b ≡ true → T b
+T-of b e = subst T (sym e) tt
+
+pub true-of : (b : Bool) → T b → b ≡ true
+true-of true h = refl
+true-of false h = absurd h
+
+pub leb-le : (m n : ℕ) → leb m n ≡ true → m ≤ n
+leb-le m n e = leb→le m n (T-of _ e)
+
+pub leb-gt : (m n : ℕ) → leb m n ≡ false → n < m
+leb-gt m n e = nleb→lt m n (T-of (not (leb m n)) (rw e))
+
+pub ltb-lt : (m n : ℕ) → ltb m n ≡ true → m < n
+ltb-lt m n e = ltb→lt m n (T-of _ e)
+
+pub ltb-ge : (m n : ℕ) → ltb m n ≡ false → n ≤ m
+ltb-ge m n e = nltb→le m n (T-of (not (ltb m n)) (rw e))
+
+pub lt-ltb : (m n : ℕ) → m < n → ltb m n ≡ true
+lt-ltb m n h = true-of _ (lt→ltb m n h)
+
+pub eqb-apart : (m n : ℕ) → eqb m n ≡ false → m ≡ n → ⊥
+eqb-apart m n e f = let z : _≡_ {A = ℕ} 0 1 = cc (eqb-same m) in omega arith
+
+-- the two tests cannot be one
+pub contra : {A : Type 0} → _≡_ {A = Bool} true false → A
+contra e = absurd (T-of false (sym e))
+
+-- ---- lists of any element
+
+module _ {A : Type 0} where
+  pub all-find : (P : A → Type 0) (test : A → Bool) (s : List A) (a : A) → find test s ≡ some a → All P s → P a
+  all-find P test [] a e p = contra (cc)
+  all-find P test (b ∷ s) a e p = go (test b) e (λ h. all-find P test s a h (p .1))
+    where
+      go : (c : Bool) → (if c then some b else find test s) ≡ some a → (find test s ≡ some a → P a) → P a
+      go true h ih = let f : b ≡ a = cc in subst P f (p .0)
+      go false h ih = ih h
+
+  pub all-without : (P : A → Type 0) (test : A → Bool) (s : List A) → All P s → All P (without test s)
+  all-without P test [] p = tt
+  all-without P test (b ∷ s) p = if-by (All P) (test b) (λ e. p .1) (λ e. (p .0, all-without P test s (p .1)))
+
+  pub all-kept : (P : A → Type 0) (test : A → Bool) (s : List A) → All P s → All P (keep test s)
+  all-kept P test [] p = tt
+  all-kept P test (b ∷ s) p = if-by (All P) (test b) (λ e. (p .0, all-kept P test s (p .1))) (λ e. all-kept P test s (p .1))
+
+  -- the first that passes is changed
+  pub all-alter-found : (P : A → Type 0) (test : A → Bool) (f : A → A) (s : List A) → ((a : A) → find test s ≡ some a → P a → P (f a)) → All P s → All P (alter test f s)
+  all-alter-found P test f [] k p = tt
+  all-alter-found P test f (b ∷ s) k p = go (test b) k (λ h. all-alter-found P test f s h (p .1))
+    where
+      go : (c : Bool) → ((a : A) → (if c then some b else find test s) ≡ some a → P a → P (f a)) → (((a : A) → find test s ≡ some a → P a → P (f a)) → All P (alter test f s)) → All P (if c then f b ∷ s else b ∷ alter test f s)
+      go true h ih = (h b refl (p .0), p .1)
+      go false h ih = (p .0, ih h)
+
+  pub all-alter : (P : A → Type 0) (test : A → Bool) (f : A → A) (s : List A) → ((a : A) → P a → P (f a)) → All P s → All P (alter test f s)
+  all-alter P test f s k p = all-alter-found P test f s (λ a e. k a) p
+
+  pub all-both : (P Q R : A → Type 0) → ((a : A) → P a → Q a → R a) → (s : List A) → All P s → All Q s → All R s
+  all-both P Q R h [] p q = tt
+  all-both P Q R h (a ∷ s) p q = (h a (p .0) (q .0), all-both P Q R h s (p .1) (q .1))
+
+  pub length-without : (test : A → Bool) (s : List A) → length (without test s) ≤ length s
+  length-without test [] = omega arith
+  length-without test (a ∷ s) = if-by (λ (u : List A). length u ≤ suc (length s)) (test a) (λ e. omega arith) (λ e. omega (arith, length-without test s))
+
+  pub length-less : (test : A → Bool) (s : List A) (a : A) → find test s ≡ some a → length (without test s) + 1 ≡ length s
+  length-less test [] a e = cc
+  length-less test (b ∷ s) a e = go (test b) e (λ h. length-less test s a h)
+    where
+      go : (c : Bool) → (if c then some b else find test s) ≡ some a → (find test s ≡ some a → length (without test s) + 1 ≡ length s) → length (if c then s else b ∷ without test s) + 1 ≡ suc (length s)
+      go true h ih = omega arith
+      go false h ih = omega (arith, ih h)
+
+  pub length-alter : (test : A → Bool) (f : A → A) (s : List A) → length (alter test f s) ≡ length s
+  length-alter test f [] = refl
+  length-alter test f (a ∷ s) = if-by (λ (u : List A). length u ≡ suc (length s)) (test a) (λ e. refl) (λ e. omega (arith, length-alter test f s))
+
+  pub length-keep : (test : A → Bool) (s : List A) → length (keep test s) ≤ length s
+  length-keep test [] = omega arith
+  length-keep test (a ∷ s) = if-by (λ (u : List A). length u ≤ suc (length s)) (test a) (λ e. omega (arith, length-keep test s)) (λ e. omega (arith, length-keep test s))
+
+  pub length-snoc : (s : List A) (a : A) → length (s ++ (a ∷ [])) ≡ length s + 1
+  length-snoc [] a = refl
+  length-snoc (b ∷ s) a = omega (arith, length-snoc s a)
+
+  pub find-none : (test : A → Bool) (s : List A) → find test s ≡ none → All (λ a. test a ≡ false) s
+  find-none test [] e = tt
+  find-none test (a ∷ s) e = go (test a) refl e (λ h. find-none test s h)
+    where
+      go : (c : Bool) → test a ≡ c → (if c then some a else find test s) ≡ none → (find test s ≡ none → All (λ b. test b ≡ false) s) → (test a ≡ false) × All (λ b. test b ≡ false) s
+      go true x h ih = contra (cc)
+      go false x h ih = (x, ih h)
+
+  -- ---- in ascending order
+
+  module _ (less : A → A → Bool) where
+    pub all-insert : (P : A → Type 0) (a : A) (s : List A) → P a → All P s → All P (insert less a s)
+    unfolding insert
+    all-insert P a [] x p = (x, tt)
+    all-insert P a (b ∷ s) x p = if-by (All P) (less a b) (λ e. (x, p)) (λ e. (p .0, all-insert P a s x (p .1)))
+
+    pub length-insert : (a : A) (s : List A) → length (insert less a s) ≡ length s + 1
+    unfolding insert
+    length-insert a [] = refl
+    length-insert a (b ∷ s) = if-by (λ (u : List A). length u ≡ suc (length s) + 1) (less a b) (λ e. omega arith) (λ e. omega (arith, length-insert a s))
+
+    pub ascending-without : (test : A → Bool) (s : List A) → Ascending less s → Ascending less (without test s)
+    ascending-without test [] p = tt
+    ascending-without test (b ∷ s) p = if-by (Ascending less) (test b) (λ e. p .1) (λ e. (all-without (λ c. less b c ≡ true) test s (p .0), ascending-without test s (p .1)))
+
+    pub ascending-append : (a : A) (s : List A) → All (λ b. less b a ≡ true) s → Ascending less s → Ascending less (s ++ (a ∷ []))
+    ascending-append a [] h p = (tt, tt)
+    ascending-append a (b ∷ s) h p = (last s (h .0) (p .0), ascending-append a s (h .1) (p .1))
+      where
+        last : (u : List A) → less b a ≡ true → All (λ c. less b c ≡ true) u → All (λ c. less b c ≡ true) (u ++ (a ∷ []))
+        last [] e q = (e, tt)
+        last (c ∷ u) e q = (q .0, last u e (q .1))
+
+    -- a change that leaves the place
+    pub ascending-alter : (test : A → Bool) (f : A → A) (s : List A) → ((a b : A) → less a b ≡ true → less (f a) b ≡ true) → ((a b : A) → less b a ≡ true → less b (f a) ≡ true)
+        → Ascending less s → Ascending less (alter test f s)
+    ascending-alter test f [] k l p = tt
+    ascending-alter test f (b ∷ s) k l p = if-by (Ascending less) (test b) (λ e. (each s (p .0), p .1))
+        (λ e. (all-alter (λ c. less b c ≡ true) test f s (λ a. l a b) (p .0), ascending-alter test f s k l (p .1)))
+      where
+        each : (u : List A) → All (λ c. less b c ≡ true) u → All (λ c. less (f b) c ≡ true) u
+        each [] q = tt
+        each (c ∷ u) q = (k b c (q .0), each u (q .1))
+
+    -- a new key takes its place
+    pub ascending-insert : ((a b c : A) → less a b ≡ true → less b c ≡ true → less a c ≡ true) → (a : A) (s : List A) → All (λ b. less a b ≡ false → less b a ≡ true) s
+        → Ascending less s → Ascending less (insert less a s)
+    unfolding insert
+    ascending-insert trans a [] h p = (tt, tt)
+    ascending-insert trans a (b ∷ s) h p = if-by (Ascending less) (less a b) (λ e. ((e, each s e (p .0)), p))
+        (λ e. (all-insert (λ c. less b c ≡ true) a s (h .0 e) (p .0), ascending-insert trans a s (h .1) (p .1)))
+      where
+        each : (u : List A) → less a b ≡ true → All (λ c. less b c ≡ true) u → All (λ c. less a c ≡ true) u
+        each [] e q = tt
+        each (c ∷ u) e q = (trans a b c e (q .0), each u e (q .1))
+
+-- ---- the order of bytes
+
+pub before-trans : (a b c : Bytes) → before a b ≡ true → before b c ≡ true → before a c ≡ true
+before-trans [] [] c e f = cc
+before-trans [] (y ∷ b) [] e f = cc
+before-trans [] (y ∷ b) (z ∷ c) e f = refl
+before-trans (x ∷ a) [] c e f = cc
+before-trans (x ∷ a) (y ∷ b) [] e f = cc
+before-trans (x ∷ a) (y ∷ b) (z ∷ c) e f = go (eqb x y) refl (eqb y z) refl (before-trans a b c) e f
+  where
+    go : (i : Bool) → eqb x y ≡ i → (j : Bool) → eqb y z ≡ j → (before a b ≡ true → before b c ≡ true → before a c ≡ true) → (if i then before a b else ltb x y) ≡ true → (if j then before b c else ltb y z) ≡ true → (if eqb x z then before a c else ltb x z) ≡ true
+    go true p true q ih e f = let same : x ≡ z = cc (eqb-sound x y p, eqb-sound y z q) in rw (same, eqb-same z) (ih e f)
+    go true p false q ih e f = let same : x ≡ y = eqb-sound x y p in rw (same, q) f
+    go false p true q ih e f = let same : y ≡ z = eqb-sound y z q in rw (← same, p) e
+    go false p false q ih e f = apart (eqb x z) refl
+      where
+        apart : (k : Bool) → eqb x z ≡ k → (if k then before a c else ltb x z) ≡ true
+        apart true r = absurd (omega (arith, ltb-lt x y e, ltb-lt y z f, eqb-sound x z r))
+        apart false r = lt-ltb x z (omega (arith, ltb-lt x y e, ltb-lt y z f))
+
+pub before-other : (a b : Bytes) → same a b ≡ false → before a b ≡ false → before b a ≡ true
+before-other [] [] d e = cc
+before-other [] (y ∷ b) d e = cc
+before-other (x ∷ a) [] d e = refl
+before-other (x ∷ a) (y ∷ b) d e = go (eqb x y) refl (before-other a b) d e
+  where
+    go : (i : Bool) → eqb x y ≡ i → (same a b ≡ false → before a b ≡ false → before b a ≡ true) → i && same a b ≡ false → (if i then before a b else ltb x y) ≡ false → (if eqb y x then before b a else ltb y x) ≡ true
+    go true p ih d e = let z : y ≡ x = cc (eqb-sound x y p) in rw (z, eqb-same x) (ih d e)
+    go false p ih d e = apart (eqb y x) refl
+      where
+        apart : (k : Bool) → eqb y x ≡ k → (if k then before b a else ltb y x) ≡ true
+        apart true r = absurd (eqb-apart x y p (sym (eqb-sound y x r)))
+        apart false r = lt-ltb y x (omega (arith, ltb-ge x y e, eqb-apart x y p))
+
+pub before-apart : (a b : Bytes) → before a b ≡ true → same a b ≡ false
+before-apart [] [] e = cc
+before-apart [] (y ∷ b) e = refl
+before-apart (x ∷ a) [] e = refl
+before-apart (x ∷ a) (y ∷ b) e = go (eqb x y) (before-apart a b) e
+  where
+    go : (i : Bool) → (before a b ≡ true → same a b ≡ false) → (if i then before a b else ltb x y) ≡ true → i && same a b ≡ false
+    go true ih e = ih e
+    go false ih e = refl
+
+-- elements in ascending order of a key of bytes
+module _ {A : Type 0} (key : A → Bytes) where
+  -- a key that goes is gone
+  pub key-gone : (p : Bytes) (s : List A) → Ascending (λ a b. before (key a) (key b)) s → All (λ b. same p (key b) ≡ false) (without (λ a. same p (key a)) s)
+  key-gone p [] h = tt
+  key-gone p (a ∷ s) h = go (same p (key a)) refl (key-gone p s (h .1))
+    where
+      others : (u : List A) → p ≡ key a → All (λ b. before (key a) (key b) ≡ true) u → All (λ b. same p (key b) ≡ false) u
+      others [] e q = tt
+      others (b ∷ u) e q = (rw e (before-apart (key a) (key b) (q .0)), others u e (q .1))
+
+      go : (c : Bool) → same p (key a) ≡ c → All (λ b. same p (key b) ≡ false) (without (λ a. same p (key a)) s) → All (λ b. same p (key b) ≡ false) (if c then s else a ∷ without (λ a. same p (key a)) s)
+      go true e ih = others s (same-sound p (key a) e) (h .0)
+      go false e ih = (e, ih)
+
+  pub key-insert : (a : A) (s : List A) → All (λ b. same (key a) (key b) ≡ false) s → Ascending (λ a b. before (key a) (key b)) s → Ascending (λ a b. before (key a) (key b)) (insert (λ a b. before (key a) (key b)) a s)
+  key-insert a s n h = ascending-insert (λ a b. before (key a) (key b)) (λ x y z. before-trans (key x) (key y) (key z)) a s (others s n) h
+    where
+      others : (u : List A) → All (λ b. same (key a) (key b) ≡ false) u → All (λ b. before (key a) (key b) ≡ false → before (key b) (key a) ≡ true) u
+      others [] q = tt
+      others (b ∷ u) q = (before-other (key a) (key b) (q .0), others u (q .1))
