@@ -7,9 +7,16 @@ use Prim.Native.Nat.{ℕ, suc, _+_, _≤_, _<_}
 use native.Mathlib.Omega.{arith}
 use lib.Dec.{T, eqb, leb, ltb, leb→le, nleb→lt, ltb→lt, nltb→le, lt→ltb}
 use lib.ListN.{length}
-use Rattle.rules.specs.Base.{if_then_else_, option, Bytes, same, find, without, alter, any, keep, All}
+use Rattle.rules.specs.Base.{if_then_else_, option, Bytes, same, find, without, alter, any, keep, tally, one, All}
 use Rattle.rules.specs.Std.{before, Ascending, insert}
-use Rattle.rules.proofs.Lists.{if-by, eqb-sound, eqb-same}
+use Rattle.rules.specs.Data.{Pair, APeer, Proven, LinkRec, Answered, Leg, Held, Memory, Table, Step, Why, Transition}
+use Rattle.rules.specs.Links.{numbered, heldBy, hold, withPath, path, retired, withoutPath, released}
+use Rattle.rules.specs.Legs.{onLink}
+use Rattle.rules.specs.Gates.{remembers, memoryOf, earlierMemory, store}
+use Rattle.rules.specs.Settle.{withLinks, withLegs, withHeld, withGates, joined, heldAt, named, earlierHeld, installs, ends, parted, removed, stamp, promote, dialed, movedTo, moveto, withEpoch, restarted, heardFrom, heard, retireds, closeLegs}
+use Rattle.rules.specs.Bounds.{earlierLink, earlierLeg, Ordered}
+use Rattle.rules.proofs.Lists.{if-by, option-by, eqb-sound, eqb-same, all-append, all-map}
+use Rattle.rules.proofs.Good.{Good}
 use Rattle.rules.proofs.Peers.{same-sound, same-refl}
 
 -- ---- tests of numbers as facts
@@ -223,3 +230,163 @@ module _ {A : Type 0} (key : A → Bytes) where
       others : (u : List A) → All (λ b. same (key a) (key b) ≡ false) u → All (λ b. before (key a) (key b) ≡ false → before (key b) (key a) ≡ true) u
       others [] q = tt
       others (b ∷ u) q = (before-other (key a) (key b) (q .0), others u (q .1))
+
+-- ---- the table
+
+store-ordered : (m : Memory) (g : List Memory) → Ascending earlierMemory g → Ascending earlierMemory (store m g)
+unfolding store
+store-ordered m g h =
+    let rest = ascending-without earlierMemory (memoryOf (m .peer)) g h in
+    if-by (Ascending earlierMemory) (remembers m) (λ e. key-insert (λ k. k .peer) m (without (memoryOf (m .peer)) g) (key-gone (λ k. k .peer) (m .peer) g h) rest) (λ e. rest)
+
+retireds-ordered : (ns : List ℕ) (s : List LinkRec) → Ascending earlierLink s → Ascending earlierLink (retireds ns s)
+unfolding retireds
+retireds-ordered [] s h = h
+retireds-ordered (n ∷ ns) s h = retireds-ordered ns (retired n s) (ascending-without earlierLink (numbered n) s h)
+
+pub all-retireds : (P : LinkRec → Type 0) (ns : List ℕ) (s : List LinkRec) → All P s → All P (retireds ns s)
+unfolding retireds
+all-retireds P [] s h = h
+all-retireds P (n ∷ ns) s h = all-retireds P ns (retired n s) (all-without P (numbered n) s h)
+
+-- legs have live links, so theirs are below next too
+legs-below : (n : ℕ) (s : List Leg) → ((m : ℕ) → n ≤ m → tally (λ g. one (onLink m g)) s ≡ 0) → All (λ g. g .link < n) s
+legs-below n [] h = tt
+legs-below n (g ∷ s) h = (go (ltb (g .link) n) refl, legs-below n s (λ m l. omega (arith, h m l)))
+  where
+    go : (b : Bool) → ltb (g .link) n ≡ b → g .link < n
+    go true e = ltb-lt (g .link) n e
+    go false e = absurd (omega (arith, h (g .link) (ltb-ge (g .link) n e), ap one (eqb-same (g .link))))
+
+module _ (t : Table) (k : Ordered t) where
+  pub ordered-joined : (r : LinkRec) (g : Leg) → r .no ≡ t .next → g .link ≡ t .next → Good t → Ordered (joined r g t)
+  ordered-joined r g a b v =
+      let bound = legs-below (t .next) (t .legs) (λ m l. omega (arith, v .below m l, v .owned .one-owner m)) in
+      record {
+        links = ascending-append earlierLink r (t .links) (all-map (λ q. q .no < t .next) (λ q. earlierLink q r ≡ true) (λ q l. lt-ltb (q .no) (r .no) (omega arith)) (t .links) (k .below)) (k .links);
+        legs = ascending-append earlierLeg g (t .legs) (all-map (λ q. q .link < t .next) (λ q. earlierLeg q g ≡ true) (λ q l. lt-ltb (q .link) (g .link) (omega arith)) (t .legs) bound) (k .legs);
+        held = k .held;
+        gates = k .gates;
+        below = all-append (λ q. q .no < t .next + 1) (t .links) (r ∷ []) (all-map (λ q. q .no < t .next) (λ q. q .no < t .next + 1) (λ q l. omega arith) (t .links) (k .below)) (omega arith, tt);
+      }
+
+  pub ordered-ends : (g : Leg) → Ordered ((ends g t) .table)
+  unfolding ends
+  ordered-ends g = record {
+    links = ascending-without earlierLink (numbered (g .link)) (t .links) (k .links);
+    legs = ascending-without earlierLeg (onLink (g .link)) (t .legs) (k .legs);
+    held = k .held;
+    gates = k .gates;
+    below = all-without (λ r. r .no < t .next) (numbered (g .link)) (t .links) (k .below);
+  }
+
+  pub ordered-removed : (now : ℕ) (p : Bytes) (why : Why) (h : Held) → Ordered ((removed now p why h t) .table)
+  unfolding removed parted
+  ordered-removed now p why h = record {
+    links = ascending-without earlierLink (numbered (h .link)) (t .links) (k .links);
+    legs = k .legs;
+    held = ascending-without earlierHeld (named p) (t .held) (k .held);
+    gates = if-by (Ascending earlierMemory) (h .heard) (λ e. k .gates) (λ e. store-ordered _ (t .gates) (k .gates));
+    below = all-without (λ r. r .no < t .next) (numbered (h .link)) (t .links) (k .below);
+  }
+
+  -- a peer that was held is held no more
+  pub removed-gone : (now : ℕ) (p : Bytes) (why : Why) (h : Held) → All (λ j. same p (j .peer) ≡ false) ((removed now p why h t) .table .held)
+  unfolding removed
+  removed-gone now p why h = key-gone (λ j. j .peer) p (t .held) (k .held)
+
+  ordered-gates : (s : List Memory) → Ascending earlierMemory s → Ordered (withGates s t)
+  ordered-gates s h = record { links = k .links; legs = k .legs; held = k .held; gates = h; below = k .below }
+
+  pub ordered-stamp : (now : ℕ) (h : Held) → Ordered (stamp now h t)
+  unfolding stamp
+  ordered-stamp now h = ordered-gates _ (if-by (Ascending earlierMemory) (h .heard) (λ e. store-ordered _ (t .gates) (k .gates)) (λ e. k .gates))
+
+  ordered-links : (test : LinkRec → Bool) (f : LinkRec → LinkRec) → ((r : LinkRec) → (f r) .no ≡ r .no) → Ordered (withLinks (alter test f (t .links)) t)
+  ordered-links test f e = record {
+    links = ascending-alter earlierLink test f (t .links) (λ a b h. rw (e a) h) (λ a b h. rw (e a) h) (k .links);
+    legs = k .legs;
+    held = k .held;
+    gates = k .gates;
+    below = all-alter (λ r. r .no < t .next) test f (t .links) (λ a h. rw (e a) h) (k .below);
+  }
+
+  pub ordered-hold : (n : ℕ) (p : Bytes) → Ordered (withLinks (hold n (APeer p) (t .links)) t)
+  unfolding hold
+  ordered-hold n p = ordered-links (numbered n) (heldBy (APeer p)) (λ r. refl)
+
+  pub ordered-path : (n : ℕ) (p : Pair) (v : Proven) → Ordered (withLinks (path n p v (t .links)) t)
+  unfolding path
+  ordered-path n p v = ordered-links (numbered n) (withPath p v) (λ r. refl)
+
+  pub ordered-release : (n : ℕ) (p : Pair) → Ordered (withLinks (released n p (t .links)) t)
+  unfolding released
+  ordered-release n p = ordered-links (numbered n) (withoutPath p) (λ r. refl)
+
+  pub ordered-legs : (test : Leg → Bool) (f : Leg → Leg) → ((g : Leg) → (f g) .link ≡ g .link) → Ordered (withLegs (alter test f (t .legs)) t)
+  ordered-legs test f e = record {
+    links = k .links;
+    legs = ascending-alter earlierLeg test f (t .legs) (λ a b h. rw (e a) h) (λ a b h. rw (e a) h) (k .legs);
+    held = k .held;
+    gates = k .gates;
+    below = k .below;
+  }
+
+  ordered-held : (test : Held → Bool) (f : Held → Held) (m : List Memory) → ((h : Held) → (f h) .peer ≡ h .peer) → Ascending earlierMemory m → Ordered (withGates m (withHeld (alter test f (t .held)) t))
+  ordered-held test f m e x = record {
+    links = k .links;
+    legs = k .legs;
+    held = ascending-alter earlierHeld test f (t .held) (λ a b h. rw (e a) h) (λ a b h. rw (e a) h) (k .held);
+    gates = x;
+    below = k .below;
+  }
+
+  pub ordered-restarted : (p : Bytes) (epoch : ℕ) → Ordered ((restarted p epoch t) .table)
+  unfolding restarted
+  ordered-restarted p epoch = option-by (λ (s : Step). Ordered (s .table)) (heldAt p t) (λ e. k) (λ h e. ordered-held (named p) (withEpoch epoch) (t .gates) (λ j. refl) (k .gates))
+
+  pub ordered-heard : (now : ℕ) (p : Bytes) (from : Pair) → Ordered ((heard now p from t) .table)
+  unfolding heard
+  ordered-heard now p from = option-by (λ (s : Step). Ordered (s .table)) (heldAt p t) (λ e. k) (λ h e. ordered-held (named p) (heardFrom now from) _ (λ j. refl) (store-ordered _ (t .gates) (k .gates)))
+
+  ordered-installs : (g : Leg) (h : Held) (m : List Memory) → All (λ j. same (h .peer) (j .peer) ≡ false) (t .held) → Ascending earlierMemory m → Ordered (withGates m (installs g h t))
+  ordered-installs g h m n x =
+      let y = ordered-hold (g .link) (h .peer) in
+      record {
+        links = y .links;
+        legs = ascending-without earlierLeg (onLink (g .link)) (t .legs) (k .legs);
+        held = key-insert (λ j. j .peer) h (t .held) n (k .held);
+        gates = x;
+        below = y .below;
+      }
+
+  pub ordered-promote : (now : ℕ) (p : Bytes) (a : Answered) (g : Leg) (r : LinkRec) → All (λ j. same p (j .peer) ≡ false) (t .held) → Ordered ((promote now p a g r t) .table)
+  unfolding promote
+  ordered-promote now p a g r n = ordered-installs g _ _ n (store-ordered _ (t .gates) (k .gates))
+
+  pub ordered-dialed : (now : ℕ) (p : Bytes) (g : Leg) (epoch : ℕ) (from : Pair) (how : Transition) → All (λ j. same p (j .peer) ≡ false) (t .held) → Ordered ((dialed now p g epoch from how t) .table)
+  unfolding dialed
+  ordered-dialed now p g epoch from how n = ordered-installs g _ (t .gates) n (k .gates)
+
+  pub ordered-moveto : (p : Bytes) (g : Leg) (h : Held) (from : Pair) → Ordered ((moveto p g h from t) .table)
+  unfolding moveto
+  ordered-moveto p g h from =
+      let s : List LinkRec = hold (g .link) (APeer p) (t .links) in
+      let y = ordered-hold (g .link) p in
+      record {
+        links = ascending-without earlierLink (numbered (h .link)) s (y .links);
+        legs = ascending-without earlierLeg (onLink (g .link)) (t .legs) (k .legs);
+        held = ascending-alter earlierHeld (named p) (movedTo (g .link) from) (t .held) (λ a b e. e) (λ a b e. e) (k .held);
+        gates = k .gates;
+        below = all-without (λ r. r .no < t .next) (numbered (h .link)) s (y .below);
+      }
+
+  pub ordered-close-legs : Ordered ((closeLegs t) .table)
+  unfolding closeLegs
+  ordered-close-legs = record {
+    links = retireds-ordered _ (t .links) (k .links);
+    legs = tt;
+    held = k .held;
+    gates = k .gates;
+    below = all-retireds (λ r. r .no < t .next) _ (t .links) (k .below);
+  }

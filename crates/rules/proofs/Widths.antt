@@ -17,7 +17,7 @@ use Rattle.rules.specs.Gates.{memory, store}
 use Rattle.rules.specs.Settle.{withLinks, withLegs, withHeld, withGates, joined, legAt, linkAt, heldAt, named, earlierHeld, installs, dial, ends, parted, removed, answer, stamp, promote, dialed, movedTo, moveto, withEpoch, restarted, heardFrom, heard, retireds, closeLegs, crowded}
 use Rattle.rules.specs.Bounds.{Word, Exactly, AtMost, IfAny, PairFits, HolderFits, LinkFits, AnsweredFits, KindFits, LegFits, HeldFits, MemoryFits, Widths}
 use Rattle.rules.proofs.Lists.{if-by, option-by, all-append, all-map}
-use Rattle.rules.proofs.Order.{contra, leb-gt, all-find, all-without, all-kept, all-alter, all-alter-found, all-insert, length-keep, length-alter, length-snoc}
+use Rattle.rules.proofs.Order.{contra, leb-gt, all-find, all-without, all-kept, all-alter, all-alter-found, all-insert, all-retireds, length-keep, length-alter, length-snoc}
 use Rattle.rules.proofs.Gating.{deadline-word, counter-word, sizes-memory, store-fits, stamped-sizes, clear-sizes, promoted-sizes, ended-sizes}
 
 -- ---- links
@@ -69,11 +69,6 @@ released-fits n p s k = all-alter LinkFits (numbered n) (withoutPath p) s
       four = omega (arith, x .four, length-keep (λ w. not (pathAt p w)) (r .paths));
       paths = all-kept (λ w. PairFits (w .pair)) (λ w. not (pathAt p w)) (r .paths) (x .paths);
     }) k
-
-retireds-fits : (ns : List ℕ) (s : List LinkRec) → All LinkFits s → All LinkFits (retireds ns s)
-unfolding retireds
-retireds-fits [] s k = k
-retireds-fits (n ∷ ns) s k = retireds-fits ns (retired n s) (all-without LinkFits (numbered n) s k)
 
 -- ---- legs
 
@@ -281,7 +276,7 @@ module _ (t : Table) (k : Widths t) where
 
   pub widths-close-legs : Widths ((closeLegs t) .table)
   unfolding closeLegs
-  widths-close-legs = record { me = k .me; params = k .params; next = k .next; links = retireds-fits _ (t .links) (k .links); legs = tt; held = k .held; gates = k .gates }
+  widths-close-legs = record { me = k .me; params = k .params; next = k .next; links = all-retireds LinkFits _ (t .links) (k .links); legs = tt; held = k .held; gates = k .gates }
 
   pub widths-path : (n : ℕ) (p : Pair) (v : Proven) → PairFits p → crowded n p t ≡ false → Widths (withLinks (path n p v (t .links)) t)
   widths-path n p v f c = widths-links _ (path-fits n p v t f c (k .links))
