@@ -1,3 +1,5 @@
 pub mod Lists
 pub mod Good
 pub mod Calls
+pub mod Demand
+pub mod Owners
