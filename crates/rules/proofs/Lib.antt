@@ -3,3 +3,4 @@ pub mod Good
 pub mod Calls
 pub mod Demand
 pub mod Owners
+pub mod Walk
