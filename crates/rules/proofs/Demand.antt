@@ -1,11 +1,11 @@
 -- Demand 3, for every list of records from an accepted record of new.
 use mathlib.Core.Path.{_≡_, refl, subst}
-use mathlib.Core.Bool.{Bool, true, false}
-use mathlib.Core.Option.{Option, none, some}
+use mathlib.Core.Bool.{false}
+use mathlib.Core.Option.{some}
 use mathlib.Core.List.{List, [], _∷_}
 use Prim.Native.Nat.{ℕ, _+_}
 use native.Mathlib.Omega.{arith}
-use Rattle.rules.specs.Base.{if_then_else_, option, Bytes}
+use Rattle.rules.specs.Base.{Bytes}
 use Rattle.rules.specs.Time.{Params, outOfRange}
 use Rattle.rules.specs.Data.{Table, Step}
 use Rattle.rules.specs.Settle.{_▸_}

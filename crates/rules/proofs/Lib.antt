@@ -4,3 +4,4 @@ pub mod Calls
 pub mod Demand
 pub mod Owners
 pub mod Walk
+pub mod Holders

@@ -7,13 +7,13 @@ use mathlib.Core.Logic.{_⊎_, inl, inr}
 use Prim.Native.Nat.{ℕ, _-_, _^_}
 use lib.Dec.{eqb, leb, ltb}
 use lib.ListN.{length}
-use Rattle.rules.specs.Base.{if_then_else_, option, is, Bytes, same, any, alter}
+use Rattle.rules.specs.Base.{option, is, Bytes, same, any, alter}
 use Rattle.rules.specs.Std.{before}
-use Rattle.rules.specs.Data.{Pair, LinkRec, Leg, Held, Answered, Table, Step, Result, Hello, Source, Why, Transition, Promote, Replace, Call, Proven}
+use Rattle.rules.specs.Data.{Pair, LinkRec, Leg, Held, Answered, Table, Step, Result, Hello, Source, Why, Promote, Replace, Call, Proven}
 use Rattle.rules.specs.Links.{path, released}
 use Rattle.rules.specs.Legs.{onLink, answered, dialing, resent, markSent, markUnsent, overdue}
-use Rattle.rules.specs.Settle.{withLinks, withLegs, _▸_, ok, refuse, still, linkAt, legAt, heldAt, places, numbering, entering}
-use Rattle.rules.specs.Settle.{dial, ends, abandon, stored, full, arrived, removed, remove, denied, asked, displaces, answer, stamp, admitted, admit, msg1, promote, sent, unsent, dialed, moveto, own, msg2, restarted, heard, abandons, poll, closeLegs, removes, close, crowded, addPath, release, step}
+use Rattle.rules.specs.Settle.{withLinks, withLegs, _▸_, linkAt, legAt, heldAt, places, numbering, entering}
+use Rattle.rules.specs.Settle.{dial, ends, abandon, stored, arrived, removed, remove, denied, asked, displaces, answer, stamp, admitted, admit, msg1, promote, sent, unsent, dialed, moveto, own, msg2, restarted, heard, abandons, poll, closeLegs, removes, close, crowded, addPath, release, step}
 use Rattle.rules.specs.Record.{Timed, readCall}
 use Rattle.rules.specs.Entry.{call}
 use Rattle.rules.specs.Claim.{Fed, play}
