@@ -2,23 +2,23 @@
 use mathlib.Core.Path.{_≡_, refl, ap}
 use mathlib.Core.Bool.{Bool, true, false, not, _&&_, _||_}
 use mathlib.Core.Option.{Option, none, some}
-use mathlib.Core.List.{List, [], _∷_, _++_, map}
+use mathlib.Core.List.{List, [], _∷_, map}
 use mathlib.Core.Logic.{_⊎_, inl, inr}
 use Prim.Native.Nat.{ℕ, _+_, _-_, _^_, _≤_}
 use native.Mathlib.Omega.{arith}
 use lib.Dec.{eqb, leb, ltb}
 use lib.ListN.{length}
 use Rattle.rules.specs.Base.{if_then_else_, option, is, Bytes, same, empty, any, keep, alter, tally, one, All}
-use Rattle.rules.specs.Std.{before, insert}
-use Rattle.rules.specs.Data.{Pair, samePair, APeer, Proven, LinkRec, Answered, Leg, Held, Memory, Table, Hello, Call, Source, Why, Denial, Transition, Installed, Output, Step, Result}
-use Rattle.rules.specs.Data.{Resend, Install, Reset, Free, Retry, Reject, Replace, Keep, Roam}
+use Rattle.rules.specs.Std.{before}
+use Rattle.rules.specs.Data.{Pair, samePair, APeer, Proven, LinkRec, Leg, Held, Memory, Table, Hello, Call, Source, Why, Transition, Installed, Output, Step, Result}
+use Rattle.rules.specs.Data.{Resend, Install, Reset, Free, Retry, Reject, Replace, Keep}
 use Rattle.rules.specs.Links.{numbered, inUse, opened, hold, path, withPath, retired, retiring, withoutPath, released, releasing}
-use Rattle.rules.specs.Legs.{onLink, answered, dialing, dialLeg, answerLeg, resent, markSent, markUnsent, due, overdue, resends, nextWake}
-use Rattle.rules.specs.Settle.{withLinks, withLegs, withHeld, withGates, joined, writes, still, _▸_, ok, refuse, linkAt, legAt, named, earlierHeld, heldAt, dropLeg, places, numbering, entering}
+use Rattle.rules.specs.Legs.{onLink, answered, dialing, dialLeg, answerLeg, resent, markSent, markUnsent, due, overdue, resends}
+use Rattle.rules.specs.Settle.{withLinks, withLegs, withHeld, withGates, joined, writes, still, _▸_, ok, refuse, linkAt, legAt, named, heldAt, places, numbering, entering}
 use Rattle.rules.specs.Settle.{dial, ends, abandon, stored, full, arrived, closes, retries, removed, remove, denied, asked, displaces, answer, stamp, admitted, admit, msg1, installs, promote, sent, unsent, dialed, movedTo, moveto, own, msg2, withEpoch, restarted, heardFrom, heard, abandons, poll, retireds, retirings, closeLegs, removes, close, crowded, addPath, release, step}
 use Rattle.rules.specs.Record.{Timed, readCall}
 use Rattle.rules.specs.Entry.{call}
-use Rattle.rules.specs.Claim.{Fed, leaseOf, leaseIn, isLease, holding, gives, given, recordsOn, heldOn, lists, Unused}
+use Rattle.rules.specs.Claim.{Fed, leaseOf, leaseIn, isLease, gives, given, recordsOn, heldOn, lists, Unused}
 use Rattle.rules.specs.Claim as Claim
 use Rattle.rules.proofs.Lists.{if-by, option-by, eqb-sound, eqb-same, tally-append, tally-insert, all-append, all-map, tally-alter, tally-alter-same}
 use Rattle.rules.proofs.Good.{Good, Less, Idle, Fine, Fair, nothing, good-less, both, both-less, less-retired, records-hold, idle-retiring, records-retired, own-link, legs-less, leases-less, leg-record, held-less, held-record}

@@ -1,18 +1,18 @@
 -- The invariant, what a call keeps, and how two steps come together.
 use mathlib.Core.Path.{_≡_, refl, ap, subst}
-use mathlib.Core.Bool.{Bool, true, false, not, _&&_, _||_}
-use mathlib.Core.Option.{Option, some}
+use mathlib.Core.Bool.{Bool, true, false, not}
+use mathlib.Core.Option.{some}
 use mathlib.Core.List.{List}
 use Prim.Native.Nat.{ℕ, _+_, _≤_}
 use native.Mathlib.Omega.{arith}
 use lib.Dec.{eqb}
-use Rattle.rules.specs.Base.{if_then_else_, Bytes, empty, find, without, any, keep, tally, one, All}
-use Rattle.rules.specs.Data.{Pair, samePair, Holder, APeer, LinkRec, Leg, Held, Table, Output, Step, Result}
-use Rattle.rules.specs.Links.{isLeg, numbered, provenAt, uses, inUse, heldBy, hold, retired, retiring, addresses}
+use Rattle.rules.specs.Base.{if_then_else_, Bytes, find, without, keep, tally, one, All}
+use Rattle.rules.specs.Data.{Pair, Holder, LinkRec, Leg, Held, Table, Output, Step, Result}
+use Rattle.rules.specs.Links.{numbered, uses, inUse, heldBy, hold, retired, retiring, addresses}
 use Rattle.rules.specs.Legs.{onLink}
 use Rattle.rules.specs.Settle.{named, legAt, heldAt, _▸_}
 use Rattle.rules.specs.Claim.{holding, given, gives, recordsOn, legsOn, heldOn, lists, Unused, Owned}
-use Rattle.rules.proofs.Lists.{option-by, eqb-sound, eqb-same, tally-append, all-append, all-map, find-test, tally-without, tally-alter-same, tally-found, any-without, any-alter, all-keep}
+use Rattle.rules.proofs.Lists.{option-by, eqb-sound, eqb-same, tally-append, all-append, all-map, find-test, tally-without, tally-alter-same, tally-found, any-without, all-keep}
 
 -- each link has one owner, and numbers from `next` on are unused
 pub record Good (t : Table) : Type 0 where

@@ -1,6 +1,10 @@
 pub mod Lists
 pub mod Good
 pub mod Calls
+pub mod Demand
+pub mod Owners
+pub mod Walk
+pub mod Holders
 pub mod Peers
 pub mod Order
 pub mod Gating
