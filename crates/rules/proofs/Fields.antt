@@ -53,6 +53,9 @@ module _ {B : Type 0} where
           let f : s ≡ r = ap (λ (x : B × Bytes). x .1) e in
           record { front = []; split = f; means = rw (ap (λ (x : B × Bytes). x .0) e) at m; rest = rw f at h }
 
+  pub yields-so : {q : Reader B} {Q R : B → Bytes → Type 0} → Yields q Q → ((b : B) (u : Bytes) → Q b u → R b u) → Yields q R
+  yields-so y g = record { used = λ s b r h e. let u = y .used s b r h e in record { front = u .front; split = u .split; means = g b (u .front) (u .means); rest = u .rest } }
+
   pub fail-yields : {R : B → Bytes → Type 0} → Yields fail R
   fail-yields = record { used = λ s b r h e. absurd (let z : _≡_ {A = ℕ} 0 1 = cc in omega arith) }
 
@@ -112,7 +115,6 @@ module _ {A B : Type 0} {p : Reader A} {P : A → Type 0} {w : A → Bytes} (f :
 
   pub then-speaks : (k : A → Reader B) {a : A} {v : Bytes} {b : B} → P a → Speaks (k a) v b → Speaks (bind p k) (w a ++ v) b
   then-speaks k {a} {v} {b} h g = record { said = λ r. rw append-assoc (bind-at p k (w a ++ (v ++ r)) a (v ++ r) (f .back a (v ++ r) h) ∙ g .said r) }
-
 
 -- ---- numbers and bytes
 
@@ -274,17 +276,29 @@ both-ways {A} {p} {P} {w} y k = record { takes = λ s a r h e. go s a r (y .used
     go : (s : Bytes) (a : A) (r : Bytes) → Used (λ a u. P a × (u ≡ w a)) s a r → Taken P w s a r
     go s a r u = record { fits = u .means .0; spelt = rw (u .means .1) at (u .split); rest = u .rest }
 
-module _ {A : Type 0} (meanings : List A) (codeOf : A → ℕ) (c : Codes meanings codeOf) where
-  pub code-reads : Reads (code meanings) (λ a. Unit {0}) (λ a. codeOf a ∷ [])
+-- u is the code byte of a
+pub record At {A : Type 0} (meanings : List A) (a : A) (u : Bytes) : Type 0 where
+  pub place : ℕ
+  pub there : getElem? meanings place ≡ some a
+  pub spelt : u ≡ place ∷ []
+
+module _ {A : Type 0} (meanings : List A) where
+  pub code-yields : Yields (code meanings) (At meanings)
   unfolding code
-  code-reads = both-ways
-    (then-yields (number-reads 1) λ k h. yields k h (getElem? meanings k) refl)
-    (λ a h. so-speaks (then-speaks (number-reads 1) _ {v = []} (c .small a) (record { said = λ r. rw (c .there a) })) (rw (digit (codeOf a) (c .small a))))
+  code-yields = then-yields (number-reads 1) λ k h. yields k h (getElem? meanings k) refl
     where
-      yields : (k : ℕ) → k < 256 → (o : Option A) → getElem? meanings k ≡ o
-          → Yields (λ s. option o none λ a. some (a, s)) (λ a u. Unit {0} × (digits 1 k ++ u ≡ codeOf a ∷ []))
+      yields : (k : ℕ) → k < 256 → (o : Option A) → getElem? meanings k ≡ o → Yields (λ s. option o none λ a. some (a, s)) (λ a u. At meanings a (digits 1 k ++ u))
       yields k h none e = fail-yields
-      yields k h (some a) e = give-yields (tt, rw (digit k h, c .only k a e))
+      yields k h (some a) e = give-yields (record { place = k; there = e; spelt = rw (digit k h) })
+
+  pub code-speaks : (k : ℕ) (a : A) → k < 256 → getElem? meanings k ≡ some a → Speaks (code meanings) (k ∷ []) a
+  unfolding code
+  code-speaks k a h e = so-speaks (then-speaks (number-reads 1) _ {v = []} h (record { said = λ r. rw e })) (rw (digit k h))
+
+  pub code-reads : (codeOf : A → ℕ) → Codes meanings codeOf → Reads (code meanings) (λ a. Unit {0}) (λ a. codeOf a ∷ [])
+  code-reads codeOf c = both-ways
+      (yields-so code-yields λ a u t. (tt, t .spelt ∙ rw (c .only (t .place) a (t .there))))
+      (λ a h. code-speaks (codeOf a) a (c .small a) (c .there a))
 
 -- ---- pairs and messages
 
