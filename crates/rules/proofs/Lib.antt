@@ -5,6 +5,8 @@ pub mod Demand
 pub mod Owners
 pub mod Walk
 pub mod Holders
+pub mod Fields
+pub mod CallFits
 pub mod Peers
 pub mod Order
 pub mod Gating
