@@ -12,3 +12,4 @@ pub mod Order
 pub mod Gating
 pub mod Widths
 pub mod Room
+pub mod Bounds

@@ -277,6 +277,23 @@ module _ (t : Table) (k : Good t) where
       let fewer = length-retireds (t .legs) (t .links) (λ i. omega (arith, k .owned .one-owner i)) in
       record { links = omega (arith, fewer); owners = λ v. omega (arith, fewer); absent = λ q x. record { held = x .held; legs = tt; gates = x .gates } }
 
+-- a holder goes, and an answer to its peer comes
+pub stays-displaced : (t : Table) → Good t → (now : ℕ) (s : Source) (x : Hello) (h : Held) → heldAt (x .peer) t ≡ some h → Stays t ((answer now x true ((removed now (x .peer) (displaces s) h (stamp now h t)) .table)) .table)
+unfolding stamp removed answer answerLeg
+stays-displaced t k now s x h e =
+    let a = stays-stamp t k now (x .peer) h e in
+    let b = stays-removed (stamp now h t) (good-stamp now h t k) now (x .peer) (displaces s) h e in
+    let r : LinkRec = opened (t .next) (x .from) Inbound in
+    let g : Leg = answerLeg (t .params) now (t .next) x true in
+    let more = length-snoc (retired (h .link) (t .links)) r in
+    record {
+      links = omega (arith, more, one-less (h .link) (t .links) (held-record t (x .peer) h e k));
+      owners = λ v. omega (arith, more, length-snoc (t .legs) g, b .owners (a .owners v));
+      absent = λ q y.
+          let z = b .absent q (a .absent q y) in
+          record { held = z .held; legs = all-append (λ g. IfAny (Other q) (g .peer)) (t .legs) (g ∷ []) (z .legs) (not-held-as t k q (x .peer) h e y, tt); gates = z .gates };
+    }
+
 -- ---- the limits
 
 -- a memory has a place, and each its own

@@ -18,6 +18,7 @@ use Rattle.rules.specs.Settle.{withLinks, withLegs, withHeld, withGates,
 use Rattle.rules.specs.Bounds.{Word, Exactly, AtMost, IfAny, PairFits, HolderFits, LinkFits, AnsweredFits, KindFits, LegFits, HeldFits, MemoryFits, Widths}
 use Rattle.rules.proofs.Lists.{if-by, option-by, all-append, all-map}
 use Rattle.rules.proofs.Order.{contra, leb-gt, all-find, all-without, all-kept, all-alter, all-alter-found, all-insert, all-retireds, length-keep, length-alter, length-snoc}
+use Rattle.rules.proofs.CallFits.{HelloFits}
 use Rattle.rules.proofs.Gating.{deadline-word, counter-word, sizes-memory, store-fits, stamped-sizes, clear-sizes, promoted-sizes, ended-sizes}
 
 -- ---- links
@@ -71,15 +72,6 @@ released-fits n p s k = all-alter LinkFits (numbered n) (withoutPath p) s
     }) k
 
 -- ---- legs
-
-pub record HelloFits (x : Hello) : Type 0 where
-  pub peer : Exactly 16 (x .peer)
-  pub from : PairFits (x .from)
-  pub bytes : AtMost 128 (x .bytes)
-  pub ephemeral : Exactly 32 (x .ephemeral)
-  pub epoch : Word (x .epoch)
-  pub msg2 : AtMost 128 (x .msg2)
-  pub lease : x .lease < 2 ^ 32
 
 module _ (c : Params) (now : ℕ) (w : Word now) where
   pub dial-leg-fits : (n : ℕ) (p m : Bytes) (l : ℕ) → Word n → Exactly 16 p → AtMost 128 m → l < 2 ^ 32 → LegFits (dialLeg c now n p m l)
