@@ -13,3 +13,4 @@ pub mod Gating
 pub mod Widths
 pub mod Room
 pub mod Bounds
+pub mod Size

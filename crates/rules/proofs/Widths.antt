@@ -27,7 +27,7 @@ opened-fits : (n : ℕ) (p : Pair) (d : Dir) → Word n → PairFits p → LinkF
 unfolding opened
 opened-fits n p d w f = record { no = w; setup = f; holder = tt; four = omega arith; paths = tt }
 
-hold-fits : (n : ℕ) (p : Bytes) (s : List LinkRec) → Exactly 16 p → All LinkFits s → All LinkFits (hold n (APeer p) s)
+pub hold-fits : (n : ℕ) (p : Bytes) (s : List LinkRec) → Exactly 16 p → All LinkFits s → All LinkFits (hold n (APeer p) s)
 unfolding hold
 hold-fits n p s f k = all-alter LinkFits (numbered n) (heldBy (APeer p)) s (λ r x. record { no = x .no; setup = x .setup; holder = f; four = x .four; paths = x .paths }) k
 

@@ -1,0 +1,493 @@
+-- What a call writes: each output within its widths, and all of them within 10,240 bytes.
+use mathlib.Core.Path.{_≡_, refl}
+use mathlib.Core.Bool.{Bool, true, false, not, _&&_, _||_}
+use mathlib.Core.Option.{Option, none, some}
+use mathlib.Core.List.{List, [], _∷_, _++_, map}
+use Prim.Native.Nat.{ℕ, zero, suc, _+_, _-_, _*_, _/_, _%_, _^_, _≤_, _<_, min}
+use native.Mathlib.Omega.{arith}
+use lib.Dec.{eqb, leb, ltb}
+use lib.ListN.{length, length-append, length-map}
+use Rattle.rules.specs.Base.{if_then_else_, option, is, orElse, Bytes, same, empty, find, any, keep, tally, All}
+use Rattle.rules.specs.Std.{before}
+use Rattle.rules.specs.Data.{Pair, samePair, APeer, Proven, PathRec, LinkRec, Answered, Kind, Leg, Held, Table, Hello, Call, Source, Why, Refusal, Denial, Full, Gate, Transition, Installed, Output, Step, Result}
+use Rattle.rules.specs.Data.{Opened, Resend, Rekey, Install, Reset, Retire, Free, Retry, Reject, Promote, Replace, Move, Keep, Roam}
+use Rattle.rules.specs.Links.{numbered, indexed, inUse, hold, once, addresses, retired, retiring, released, releasing}
+use Rattle.rules.specs.Legs.{onLink, answered, dialing, storedMsg2, due, overdue, resends, wake, nextWake}
+use Rattle.rules.specs.Settle.{still, writes, _▸_, ok, refuse, legAt, heldAt, linkAt, named, numbering, entering, dial, ends, abandon, Stored, storedOn, storedIn, stored, full, arrived, closes, retries, parted, removed, remove, denied, asked, displaces, answer, stamp, admitted, admit, attributed, msg1, promote, sent, unsent, dialed, moveto, own, msg2, restarted, heard, abandons, poll, retireds, retirings, closeLegs, removes, close, crowded, addPath, release, step, places}
+use Rattle.rules.specs.Field.{digits, pairBytes, messageBytes, frame}
+use Rattle.rules.specs.Output.{pairsBytes, listBytes, installBytes, outputBytes, outputRecord, outputs}
+use Rattle.rules.specs.Record.{Timed, readCall}
+use Rattle.rules.specs.Entry.{call}
+use Rattle.rules.specs.Bounds.{IsByte, Word, Exactly, AtMost, IfAny, PairFits, LinkFits, AnsweredFits, KindFits, LegFits, HeldFits, Widths, Limits, Bounds}
+use Rattle.rules.proofs.Lists.{if-by, option-by, tally-append, all-append, all-map}
+use Rattle.rules.proofs.Good.{own-link}
+use Rattle.rules.proofs.CallFits.{HelloFits, DialFits, CallFits, TimedFits, accepted-fits}
+use Rattle.rules.proofs.Order.{contra, all-find, all-without, all-kept, length-less, length-keep, length-snoc}
+use Rattle.rules.proofs.Widths.{leg-fits, held-fits, link-fits, answered-fits, if-any, hold-fits, widths-ends, widths-removed, widths-stamp, widths-close-legs}
+
+-- ---- outputs within their widths
+
+-- at most n pairs
+pub record ListFits (n : ℕ) (s : List Pair) : Type 0 where
+  pub size : length s ≤ n
+  pub each : All PairFits s
+
+pub record InstalledFits (i : Installed) : Type 0 where
+  pub peer : Exactly 16 (i .peer)
+  pub link : Word (i .link)
+  pub pair : PairFits (i .pair)
+  pub lease : i .lease < 2 ^ 32
+
+-- a link's messages and lists: five pairs to a link, and 32 links to a Close
+abbrev pub OutputFits : Output → Type 0
+OutputFits (Opened n) = Word n
+OutputFits (Output.Answer n b m) = Word n × AtMost 128 m
+OutputFits (Resend n m) = Word n × AtMost 128 m
+OutputFits (Rekey p a b) = Exactly 16 p
+OutputFits (Install i) = InstalledFits i
+OutputFits (Reset p k) = Exactly 16 p
+OutputFits (Output.Remove p w) = Exactly 16 p
+OutputFits (Retire n ps) = Word n × ListFits 5 ps
+OutputFits (Output.Release n ps) = Word n × ListFits 1 ps
+OutputFits (Output.Close ps) = ListFits 160 ps
+OutputFits (Free l) = l < 2 ^ 32
+OutputFits (Retry p) = Exactly 16 p
+OutputFits (Reject o w) = IfAny (λ a. Exactly 16 (a .0)) o
+OutputFits (Output.Wake o) = IfAny Word o
+
+-- ---- their bytes
+
+-- the most bytes that an output takes
+abbrev pub cost : Output → ℕ
+cost (Opened n) = 12
+cost (Output.Answer n b m) = 143
+cost (Resend n m) = 142
+cost (Rekey p a b) = 22
+cost (Install i) = 87
+cost (Reset p k) = 21
+cost (Output.Remove p w) = 21
+cost (Retire n ps) = 13 + 53 * length ps
+cost (Output.Release n ps) = 13 + 53 * length ps
+cost (Output.Close ps) = 5 + 53 * length ps
+cost (Free l) = 8
+cost (Retry p) = 20
+cost (Reject o w) = 23
+cost (Output.Wake o) = 13
+
+digits-length : (n v : ℕ) → length (digits n v) ≡ n
+unfolding digits
+digits-length zero v = refl
+digits-length (suc n) v = omega (arith, length-snoc (digits n (v / 256)) (v % 256), digits-length n (v / 256))
+
+pair-size : (p : Pair) → PairFits p → length (pairBytes p) ≤ 53
+unfolding pairBytes
+pair-size p f = simp (length-append, digits-length) (omega (arith, f .addr .size))
+
+pairs-size : (s : List Pair) → All PairFits s → length (pairsBytes s) ≤ 53 * length s
+pairs-size [] f = omega arith
+pairs-size (p ∷ s) f = omega (arith, length-append (pairBytes p) (pairsBytes s), pair-size p (f .0), pairs-size s (f .1))
+
+list-size : (s : List Pair) → All PairFits s → length (listBytes s) ≤ 1 + 53 * length s
+unfolding listBytes
+list-size s f = simp (length-append, digits-length) (omega (arith, pairs-size s f))
+
+message-size : (m : Bytes) → AtMost 128 m → length (messageBytes m) ≤ 130
+unfolding messageBytes
+message-size m f = simp (length-append, digits-length) (omega (arith, f .size))
+
+install-size : (i : Installed) → InstalledFits i → length (installBytes i) ≤ 83
+unfolding installBytes
+install-size i f = simp (length-append, digits-length) (omega (arith, f .peer .size, pair-size (i .pair) (f .pair)))
+
+output-size : (o : Output) → OutputFits o → length (outputBytes o) + 4 ≤ cost o
+unfolding outputBytes
+output-size (Opened n) f = simp digits-length (omega arith)
+output-size (Output.Answer n b m) f = simp (length-append, digits-length) (omega (arith, message-size m (f .1)))
+output-size (Resend n m) f = simp (length-append, digits-length) (omega (arith, message-size m (f .1)))
+output-size (Rekey p a b) f = simp length-append (omega (arith, f .size))
+output-size (Install i) f = omega (arith, install-size i f)
+output-size (Reset p k) f = simp length-append (omega (arith, f .size))
+output-size (Output.Remove p w) f = simp length-append (omega (arith, f .size))
+output-size (Retire n ps) f = simp (length-append, digits-length) (omega (arith, list-size ps (f .1 .each)))
+output-size (Output.Release n ps) f = simp (length-append, digits-length) (omega (arith, list-size ps (f .1 .each)))
+output-size (Output.Close ps) f = omega (arith, list-size ps (f .each))
+output-size (Free l) f = simp digits-length (omega arith)
+output-size (Retry p) f = omega (arith, f .size)
+output-size (Reject none w) f = omega arith
+output-size (Reject (some (p, s)) w) f = simp length-append (omega (arith, f .size))
+output-size (Output.Wake none) f = omega arith
+output-size (Output.Wake (some n)) f = simp digits-length (omega arith)
+
+record-size : (o : Output) → length (outputRecord o) ≡ length (outputBytes o) + 4
+unfolding outputRecord frame
+record-size o = simp (length-append, digits-length) (omega arith)
+
+pub outputs-size : (os : List Output) → All OutputFits os → length (outputs os) ≤ tally cost os
+unfolding outputs
+outputs-size [] f = omega arith
+outputs-size (o ∷ s) f = omega (arith, length-append (outputRecord o) (outputs s), record-size o, output-size o (f .0), outputs-size s (f .1))
+
+-- outputs within their widths, of at most n bytes
+pub record Wrote (n : ℕ) (os : List Output) : Type 0 where
+  pub fits : All OutputFits os
+  pub cost : tally cost os ≤ n
+
+wrote-nothing : {n : ℕ} → Wrote n []
+wrote-nothing = record { fits = tt; cost = omega arith }
+
+both : {m n : ℕ} {s u : List Output} → Wrote m s → Wrote n u → Wrote (m + n) (s ++ u)
+both {s = s} {u = u} x y = record { fits = all-append OutputFits s u (x .fits) (y .fits); cost = omega (arith, tally-append cost s u, x .cost, y .cost) }
+
+within : {n : ℕ} (m : ℕ) {os : List Output} → m ≤ n → Wrote m os → Wrote n os
+within m h x = record { fits = x .fits; cost = omega (arith, x .cost) }
+
+-- ---- what is listed
+
+once-fits : (seen s : List Pair) → All PairFits s → ListFits (length s) (once seen s)
+unfolding once
+once-fits seen [] f = record { size = omega arith; each = tt }
+once-fits seen (p ∷ s) f = if-by (ListFits (suc (length s))) (any (samePair p) seen)
+    (λ e. let x = once-fits seen s (f .1) in record { size = omega (arith, x .size); each = x .each })
+    (λ e. let x = once-fits (p ∷ seen) s (f .1) in record { size = omega (arith, x .size); each = (f .0, x .each) })
+
+all-pairs : (s : List PathRec) → All (λ w. PairFits (w .pair)) s → All PairFits (map (λ w. w .pair) s)
+all-pairs [] f = tt
+all-pairs (w ∷ s) f = (f .0, all-pairs s (f .1))
+
+-- a link's setup and its four paths
+retiring-fits : (n : ℕ) (s : List LinkRec) → All LinkFits s → ListFits 5 (retiring n s)
+unfolding retiring addresses
+retiring-fits n s k = option-by (ListFits 5) (find (numbered n) s) (λ e. record { size = omega arith; each = tt }) λ r e.
+    let f = all-find LinkFits (numbered n) s r e k in
+    let x = once-fits [] (r .setup ∷ map (λ w. w .pair) (r .paths)) (f .setup, all-pairs (r .paths) (f .paths)) in
+    record {
+      size = omega (arith, f .four, x .size, length-map (r .paths) (λ w. w .pair), length-keep (λ p. not (inUse p (retired n s))) (addresses r));
+      each = all-kept PairFits (λ p. not (inUse p (retired n s))) (addresses r) (x .each);
+    }
+
+retirings-fits : (gs : List Leg) (s : List LinkRec) → All LinkFits s → ListFits (5 * length gs) (retirings (map (λ g. g .link) gs) s)
+unfolding retirings
+retirings-fits [] s k = record { size = omega arith; each = tt }
+retirings-fits (g ∷ gs) s k =
+    let n : ℕ = g .link in
+    let x = retiring-fits n s k in
+    let y = retirings-fits gs (retired n s) (all-without LinkFits (numbered n) s k) in
+    record {
+      size = omega (arith, length-append (retiring n s) (retirings (map (λ g. g .link) gs) (retired n s)), x .size, y .size);
+      each = all-append PairFits (retiring n s) (retirings (map (λ g. g .link) gs) (retired n s)) (x .each) (y .each);
+    }
+
+-- ---- stored answers
+
+pub record StoredFits (o : Stored) : Type 0 where
+  pub link : Word (o .link)
+  pub msg2 : AtMost 128 (o .msg2)
+
+stored-msg2 : (b : Bytes) (g : Leg) → LegFits g → IfAny (AtMost 128) (storedMsg2 b g)
+unfolding storedMsg2
+stored-msg2 b g f = option-by (IfAny (AtMost 128)) (answered (g .kind)) (λ e. tt)
+    (λ a e. if-by (IfAny (AtMost 128)) (not (a .sent) || same b (g .msg1)) (λ z. (answered-fits (g .kind) a e (f .kind)) .msg2) (λ z. tt))
+
+stored-fits : (p : Pair) (b : Bytes) (gs : List Leg) (s : List LinkRec) → All LegFits gs → All LinkFits s → IfAny StoredFits (storedIn p b gs s)
+unfolding storedIn storedOn
+stored-fits p b gs [] f k = tt
+stored-fits p b gs (r ∷ s) f k = first (storedOn p b gs r) (storedIn p b gs s) here (stored-fits p b gs s f (k .1))
+  where
+    first : (o q : Option Stored) → IfAny StoredFits o → IfAny StoredFits q → IfAny StoredFits (orElse o q)
+    first none q x y = y
+    first (some a) q x y = x
+
+    here : IfAny StoredFits (storedOn p b gs r)
+    here = if-by (IfAny StoredFits) (indexed p r)
+        (λ e. option-by (IfAny StoredFits) (find (onLink (r .no)) gs) (λ z. tt)
+        (λ g z. option-by (IfAny StoredFits) (storedMsg2 b g) (λ y. tt)
+        (λ m y. record { link = k .0 .no; msg2 = if-any (AtMost 128) (storedMsg2 b g) m y (stored-msg2 b g (all-find LegFits (onLink (r .no)) gs g z f)) })))
+        (λ e. tt)
+
+-- ---- poll's and wake's times
+
+resends-wrote : (now : ℕ) (s : List Leg) → All LegFits s → Wrote (142 * length s) (resends now s)
+unfolding resends
+resends-wrote now [] f = record { fits = tt; cost = omega arith }
+resends-wrote now (g ∷ s) f = go (option (g .next) false (due now)) (resends-wrote now s (f .1))
+  where
+    rest : List Leg
+    rest = keep (λ g. option (g .next) false (due now)) s
+
+    go : (b : Bool) → Wrote (142 * length s) (map (λ g. Resend (g .link) (g .msg1)) rest) → Wrote (142 * suc (length s)) (map (λ g. Resend (g .link) (g .msg1)) (if b then g ∷ rest else rest))
+    go true x = record { fits = ((f .0 .link, f .0 .msg1), x .fits); cost = omega (arith, x .cost) }
+    go false x = record { fits = x .fits; cost = omega (arith, x .cost) }
+
+wake-fits : (s : List Leg) → All LegFits s → IfAny Word (nextWake s)
+unfolding nextWake wake
+wake-fits [] f = tt
+wake-fits (g ∷ s) f = soonest (nextWake s) (wake-fits s (f .1))
+  where
+    own : Word (wake g)
+    own = option-by Word (g .next) (λ e. f .0 .deadline) (λ n e. if-by Word (ltb n (g .deadline)) (λ z. if-any Word (g .next) n e (f .0 .next)) (λ z. f .0 .deadline))
+
+    soonest : (o : Option ℕ) → IfAny Word o → Word (option o (wake g) (λ n. min (wake g) n))
+    soonest none x = own
+    soonest (some n) x = let w = own in omega arith
+
+-- ---- legs that end and holders that go: a leg gives up 286 bytes, a holder 299
+
+pub record Spends (t : Table) (s : Step) : Type 0 where
+  pub widths : Widths (s .table)
+  pub fits : All OutputFits (s .outs)
+  pub cost : tally cost (s .outs) + 286 * length (s .table .legs) + 299 * length (s .table .held) ≤ 286 * length (t .legs) + 299 * length (t .held)
+
+spends-still : (t : Table) → Widths t → Spends t (still t)
+spends-still t k = record { widths = k; fits = tt; cost = omega arith }
+
+spends-both : {t : Table} {s : Step} (f : Table → Step) → Spends t s → Spends (s .table) (f (s .table)) → Spends t (s ▸ f)
+unfolding _▸_
+spends-both {t} {s} f x y = record {
+  widths = y .widths;
+  fits = all-append OutputFits (s .outs) ((f (s .table)) .outs) (x .fits) (y .fits);
+  cost = omega (arith, tally-append cost (s .outs) ((f (s .table)) .outs), x .cost, y .cost);
+}
+
+module _ (t : Table) (k : Widths t) where
+  ends-fit : (g : Leg) → LegFits g → All OutputFits ((ends g t) .outs)
+  unfolding ends
+  ends-fit g f = (f .lease, ((f .link, retiring-fits (g .link) (t .links) (k .links)), tt))
+
+  spends-ends : (g : Leg) → legAt (g .link) t ≡ some g → Spends t (ends g t)
+  unfolding ends
+  spends-ends g e = record {
+    widths = widths-ends t k g;
+    fits = ends-fit g (leg-fits t k (g .link) g e);
+    cost = omega (arith, (retiring-fits (g .link) (t .links) (k .links)) .size, length-less (onLink (g .link)) (t .legs) g e);
+  }
+
+  spends-abandon : (n : ℕ) → Spends t (abandon n t)
+  unfolding abandon
+  spends-abandon n = option-by (Spends t) (legAt n t) (λ e. spends-still t k) (λ g e. spends-ends g (own-link t n g e))
+
+  spends-removed : (now : ℕ) (p : Bytes) (h : Held) → Word now → Exactly 16 p → heldAt p t ≡ some h → Spends t (removed now p Why.Closed h t)
+  unfolding removed
+  spends-removed now p h w q e = record {
+    widths = widths-removed t k now p Why.Closed h w e;
+    fits = (q, (((held-fits t k p h e) .link, retiring-fits (h .link) (t .links) (k .links)), tt));
+    cost = omega (arith, (retiring-fits (h .link) (t .links) (k .links)) .size, length-less (named p) (t .held) h e);
+  }
+
+  spends-remove : (now : ℕ) (p : Bytes) → Word now → Exactly 16 p → Spends t (remove now p Why.Closed t)
+  unfolding remove
+  spends-remove now p w q = option-by (Spends t) (heldAt p t) (λ e. spends-still t k) (λ h e. spends-removed now p h w q e)
+
+spends-abandons : (ns : List ℕ) (t : Table) → Widths t → Spends t (abandons ns t)
+unfolding abandons
+spends-abandons [] t k = spends-still t k
+spends-abandons (n ∷ ns) t k = let x = spends-abandon t k n in spends-both (abandons ns) x (spends-abandons ns _ (x .widths))
+
+spends-removes : (now : ℕ) (ps : List Bytes) (t : Table) → Word now → All (Exactly 16) ps → Widths t → Spends t (removes now ps t)
+unfolding removes
+spends-removes now [] t w q k = spends-still t k
+spends-removes now (p ∷ ps) t w q k = let x = spends-remove t k now p w (q .0) in spends-both (removes now ps) x (spends-removes now ps _ w (q .1) (x .widths))
+
+-- ---- one call
+
+frees : (s : List Leg) → All LegFits s → Wrote (8 * length s) (map (λ g. Free (g .lease)) s)
+frees [] f = record { fits = tt; cost = omega arith }
+frees (g ∷ s) f = let x = frees s (f .1) in record { fits = (f .0 .lease, x .fits); cost = omega (arith, x .cost) }
+
+all-peers : (s : List Held) → All HeldFits s → All (Exactly 16) (map (λ h. h .peer) s)
+all-peers [] f = tt
+all-peers (h ∷ s) f = (f .0 .peer, all-peers s (f .1))
+
+abbrev Enough : List Output → Type 0
+Enough os = Wrote 10_240 os
+
+Q : Step → Type 0
+Q s = Wrote 10_240 (s .outs)
+
+R : Result → Type 0
+R d = Wrote 10_240 (d .step .outs)
+
+module _ (t : Table) (k : Widths t) (l : Limits t) where
+  wrote-abandon : (n : ℕ) → Q (abandon n t)
+  unfolding Q
+  wrote-abandon n = let x = spends-abandon t k n in record { fits = x .fits; cost = omega (arith, x .cost, l .links, l .owners) }
+
+  wrote-poll : (now : ℕ) → Q (poll now t)
+  unfolding poll _▸_ Q
+  wrote-poll now =
+      let u : Step = abandons (overdue now (t .legs)) t in
+      let x = spends-abandons (overdue now (t .legs)) t k in
+      let y = resends-wrote now (u .table .legs) (x .widths .legs) in
+      record {
+        fits = all-append OutputFits (u .outs) (resends now (u .table .legs)) (x .fits) (y .fits);
+        cost = omega (arith, tally-append cost (u .outs) (resends now (u .table .legs)), x .cost, y .cost, l .links, l .owners);
+      }
+
+  wrote-close-legs : Wrote (5 + 273 * length (t .legs)) ((closeLegs t) .outs)
+  unfolding closeLegs
+  wrote-close-legs =
+      let ps : List Pair = retirings (map (λ g. g .link) (t .legs)) (t .links) in
+      let x = retirings-fits (t .legs) (t .links) (k .links) in
+      let y : Wrote (5 + 265 * length (t .legs)) (if empty ps then [] else Output.Close ps ∷ []) = if-by (Wrote (5 + 265 * length (t .legs))) (empty ps) (λ e. wrote-nothing)
+      (λ e. record { fits = (record { size = omega (arith, x .size, l .links, l .owners); each = x .each }, tt); cost = omega (arith, x .size) }) in
+      within (8 * length (t .legs) + (5 + 265 * length (t .legs))) (omega arith) (both (frees (t .legs) (k .legs)) y)
+
+  wrote-close : (now : ℕ) → Word now → Q (close now t)
+  unfolding close closeLegs _▸_ Q
+  wrote-close now w =
+      let u : Step = closeLegs t in
+      let x = wrote-close-legs in
+      let y = spends-removes now (map (λ h. h .peer) (t .held)) (u .table) w (all-peers (t .held) (k .held)) (widths-close-legs t k) in
+      let v : List Output = (removes now (map (λ h. h .peer) (t .held)) (u .table)) .outs in
+      record { fits = all-append OutputFits (u .outs) v (x .fits) (y .fits); cost = omega (arith, tally-append cost (u .outs) v, x .cost, y .cost, l .links, l .owners) }
+
+-- with the lease freed
+with-free : {o : Output} (n : ℕ) → OutputFits o → cost o ≤ 1_000 → n < 2 ^ 32 → Enough (o ∷ Free n ∷ [])
+with-free n f c v = record { fits = (f, (v, tt)); cost = omega arith }
+
+wrote-numbering : (t : Table) (d : Result) → R d → R (numbering t d)
+unfolding numbering R
+wrote-numbering t d x = if-by R (eqb (t .next) (2 ^ 64 - 1)) (λ e. wrote-nothing) (λ e. x)
+
+wrote-entering : (p : Bytes) (t : Table) (d : Result) → R d → R (entering p t d)
+unfolding entering R
+wrote-entering p t d x = if-by R (leb 32 (length (t .links))) (λ a. wrote-nothing) (λ a. if-by R (not (any (same p) (places t)) && leb 32 (length (places t))) (λ b. wrote-nothing) (λ b. x))
+
+module _ (t : Table) (k : Widths t) where
+  wrote-removed : (now : ℕ) (p : Bytes) (why : Why) (h : Held) → Exactly 16 p → HeldFits h → Wrote 319 ((removed now p why h t) .outs)
+  unfolding removed
+  wrote-removed now p why h q f =
+      let x : ListFits 5 (if closes why then retiring (h .link) (t .links) else []) = if-by (ListFits 5) (closes why) (λ e. retiring-fits (h .link) (t .links) (k .links)) (λ e. record { size = omega arith; each = tt }) in
+      let y : Wrote 20 (if retries why then Retry p ∷ [] else []) = if-by (Wrote 20) (retries why) (λ e. record { fits = (q, tt); cost = omega arith }) (λ e. wrote-nothing) in
+      record { fits = (q, ((f .link, x), y .fits)); cost = omega (arith, x .size, y .cost) }
+
+  wrote-remove : (now : ℕ) (p : Bytes) (why : Why) → Exactly 16 p → Q (remove now p why t)
+  unfolding remove Q
+  wrote-remove now p why q = option-by Q (heldAt p t) (λ e. wrote-nothing) (λ h e. within 319 (omega arith) (wrote-removed now p why h q (held-fits t k p h e)))
+
+  wrote-stored : (p : Pair) (b : Bytes) (o : Stored) → stored p b t ≡ some o → StoredFits o
+  unfolding stored
+  wrote-stored p b o e = if-any StoredFits (stored p b t) o e (stored-fits p b (t .legs) (t .links) (k .legs) (k .links))
+
+  wrote-arrived : (p : Pair) (b : Bytes) → Q (arrived p b t)
+  unfolding arrived Q
+  wrote-arrived p b = option-by Q (stored p b t)
+      (λ e. if-by Enough (full t) (λ z. record { fits = (tt, tt); cost = omega arith }) (λ z. wrote-nothing))
+      (λ o e. let x = wrote-stored p b o e in record { fits = ((x .link, x .msg2), tt); cost = omega arith })
+
+  wrote-answer : (now : ℕ) (x : Hello) (b : Bool) → HelloFits x → Wrote 143 ((answer now x b t) .outs)
+  unfolding answer
+  wrote-answer now x b f = record { fits = ((k .next, f .msg2), tt); cost = omega arith }
+
+module _ (t : Table) (k : Widths t) where
+  wrote-admit : (now : ℕ) (s : Source) (x : Hello) → Word now → HelloFits x → R (admit now s x t)
+  unfolding admit admitted _▸_ stamp R
+  wrote-admit now s x w f =
+      let j : Source = asked s (heldAt (x .peer) t) in
+      option-by R (denied now j x t)
+      (λ e. option-by R (heldAt (x .peer) t) (λ n. wrote-entering (x .peer) t _ (within 143 (omega arith) (wrote-answer t k now x false f)))
+      (λ h n. within (319 + 143) (omega arith) (over j h n)))
+      (λ why e. with-free (x .lease) (f .peer) (omega arith) (f .lease))
+    where
+      over : (j : Source) (h : Held) → heldAt (x .peer) t ≡ some h
+          → Wrote (319 + 143) ((removed now (x .peer) (displaces j) h (stamp now h t)) .outs ++ (answer now x true ((removed now (x .peer) (displaces j) h (stamp now h t)) .table)) .outs)
+      over j h n =
+          let u = widths-stamp t k now (x .peer) h w n in
+          both (wrote-removed (stamp now h t) u now (x .peer) (displaces j) h (f .peer) (held-fits t k (x .peer) h n))
+          (wrote-answer _ (widths-removed (stamp now h t) u now (x .peer) (displaces j) h w n) now x true f)
+
+  wrote-msg1 : (now : ℕ) (x : Hello) (b : Bool) → Word now → HelloFits x → R (msg1 now x b t)
+  unfolding msg1 R
+  wrote-msg1 now x b w f = option-by R (stored (x .from) (x .bytes) t)
+      (λ e. option-by R (heldAt (x .peer) t) (λ n. wrote-admit now Source.NotHeld x w f)
+      (λ h n. if-by R (not (eqb (h .epoch) (x .epoch))) (λ q. wrote-admit now Source.Restart x w f) (λ q. with-free (x .lease) (f .peer) (omega arith) (f .lease))))
+      (λ o e. let y = wrote-stored t k (x .from) (x .bytes) o e in with-free (x .lease) (y .link, y .msg2) (omega arith) (f .lease))
+
+  -- an install and its Reset
+  installed : (p : Bytes) (i : Installed) (how : Transition) → Exactly 16 p → InstalledFits i → Wrote 108 (Install i ∷ Reset p how ∷ [])
+  installed p i how q f = record { fits = (f, (q, tt)); cost = omega arith }
+
+  wrote-sent : (now n : ℕ) → Q (sent now n t)
+  unfolding sent promote Q
+  wrote-sent now n = option-by Q (legAt n t) (λ e. wrote-nothing) λ g e.
+      option-by Q (answered (g .kind)) (λ z. wrote-nothing) λ a z.
+      option-by Q (g .peer) (λ v. wrote-nothing) λ p v.
+      if-by Q (is (heldAt p t)) (λ w. wrote-nothing)
+      (λ w. option-by Q (linkAt n t) (λ u. wrote-nothing) λ r u.
+      let f = leg-fits t k n g e in
+      let q : Exactly 16 p = if-any (Exactly 16) (g .peer) p v (f .peer) in
+      within 108 (omega arith) (installed p _ _ q (record { peer = q; link = f .link; pair = (link-fits t k n r u) .setup; lease = f .lease })))
+
+  -- the move holds the leg's link before it retires the holder's
+  wrote-moveto : (p : Bytes) (g : Leg) (h : Held) (from : Pair) → LegFits g → HeldFits h → Exactly 16 p → PairFits from → Q (moveto p g h from t)
+  unfolding moveto Q
+  wrote-moveto p g h from f y q x =
+      let s : List LinkRec = hold (g .link) (APeer p) (t .links) in
+      let z = retiring-fits (h .link) s (hold-fits (g .link) p (t .links) q (k .links)) in
+      record { fits = (record { peer = q; link = f .link; pair = x; lease = f .lease }, (q, ((y .link, z), tt))); cost = omega (arith, z .size) }
+
+  wrote-msg2 : (now n epoch : ℕ) (from : Pair) → PairFits from → Q (msg2 now n epoch from t)
+  unfolding msg2 dialed ends _▸_ Q
+  wrote-msg2 now n epoch from x = option-by Q (legAt n t) (λ e. wrote-nothing) λ g e.
+      option-by Q (dialing g) (λ z. wrote-nothing) λ p z.
+      let f = leg-fits t k n g e in
+      let q : Exactly 16 p = if-any (Exactly 16) (dialing g) p z (option-by (IfAny (Exactly 16)) (answered (g .kind)) (λ y. f .peer) (λ a y. tt)) in
+      option-by Q (heldAt p t) (λ v. within 108 (omega arith) (installed p _ _ q (record { peer = q; link = f .link; pair = x; lease = f .lease }))) λ h v.
+      if-by Q (not (eqb (h .epoch) epoch))
+      (λ u. within (319 + 108) (omega arith) (both (wrote-removed t k now p Why.OwnRestart h q (held-fits t k p h v)) (installed p _ _ q (record { peer = q; link = f .link; pair = x; lease = f .lease }))))
+      (λ u. if-by Q (own h t || before (t .me) p) (λ c. wrote-moveto p g h from f (held-fits t k p h v) q x)
+      (λ c. let y = retiring-fits (g .link) (t .links) (k .links) in record { fits = (f .lease, ((f .link, y), (q, tt))); cost = omega (arith, y .size) }))
+
+  wrote-restarted : (p : Bytes) (epoch : ℕ) → Exactly 16 p → Q (restarted p epoch t)
+  unfolding restarted Q
+  wrote-restarted p epoch q = option-by Q (heldAt p t) (λ e. wrote-nothing) (λ h e. record { fits = (q, tt); cost = omega arith })
+
+  wrote-heard : (now : ℕ) (p : Bytes) (from : Pair) → Exactly 16 p → Q (heard now p from t)
+  unfolding heard Q
+  wrote-heard now p from q = option-by Q (heldAt p t) (λ e. wrote-nothing)
+      (λ h e. if-by Enough (samePair from (h .current)) (λ z. wrote-nothing) (λ z. record { fits = (q, tt); cost = omega arith }))
+
+  wrote-release : (n : ℕ) (p : Pair) (kept : Bool) → Word n → PairFits p → Q (release n p kept t)
+  unfolding release releasing Q
+  wrote-release n p kept w f =
+      let x : ListFits 1 (releasing n p kept (t .links)) = if-by (ListFits 1) (not (any (numbered n) (t .links)) || kept || inUse p (released n p (t .links)))
+      (λ e. record { size = omega arith; each = tt }) (λ e. record { size = omega arith; each = (f, tt) }) in
+      record { fits = ((w, x), tt); cost = omega (arith, x .size) }
+
+  wrote-path : (n : ℕ) (p : Pair) (v : Proven) → R (addPath n p v t)
+  unfolding addPath R
+  wrote-path n p v = if-by R (crowded n p t) (λ e. wrote-nothing) (λ e. wrote-nothing)
+
+-- every call
+wrote-step : (now : ℕ) (c : Call) (t : Table) → Word now → CallFits c → Widths t → Limits t → R (step now c t)
+unfolding step dial unsent Q R
+wrote-step now (Call.Dial p to m n) t w f k l = wrote-numbering t _ (wrote-entering p t _ (record { fits = (k .next, tt); cost = omega arith }))
+wrote-step now (Call.Abandon n) t w f k l = wrote-abandon t k l n
+wrote-step now (Call.Arrived p b) t w f k l = wrote-arrived t k p b
+wrote-step now (Call.Msg1 x b) t w f k l = wrote-numbering t _ (wrote-msg1 t k now x b w f)
+wrote-step now (Call.Replacement x) t w f k l = wrote-numbering t _ (wrote-admit t k now Source.Replacement x w f)
+wrote-step now (Call.Sent n) t w f k l = wrote-sent t k now n
+wrote-step now (Call.Unsent n) t w f k l = wrote-nothing
+wrote-step now (Call.Msg2 n e p) t w f k l = wrote-msg2 t k now n e p (f .2)
+wrote-step now (Call.Restarted p e) t w f k l = wrote-restarted t k p e (f .0)
+wrote-step now (Call.Heard p from) t w f k l = wrote-heard t k now p from (f .0)
+wrote-step now (Call.Remove p why) t w f k l = wrote-remove t k now p why f
+wrote-step now Call.Poll t w f k l = wrote-poll t k l now
+wrote-step now Call.Close t w f k l = wrote-close t k l now w
+wrote-step now (Call.Path n p v) t w f k l = wrote-path t k n p v
+wrote-step now (Call.Release n p b) t w f k l = wrote-release t k n p b (f .0) (f .1)
+wrote-step now Call.Wake t w f k l = record { fits = (wake-fits (t .legs) (k .legs), tt); cost = omega arith }
+
+module _ (s : Bytes) (buffer : ℕ) (t : Table) (h : All IsByte s) (b : Bounds t) where
+  wrote-call : R (call s buffer t)
+  unfolding call R
+  wrote-call = if-by R (ltb buffer 10_240) (λ e. wrote-nothing)
+      (λ e. option-by R (readCall s) (λ z. wrote-nothing) (λ x z. let f = accepted-fits s x h z in wrote-step (x .now) (x .call) t (f .now) (f .call) (b .widths) (b .limits)))
+
+  -- each output can be spelt
+  pub outputs-fit : All OutputFits ((call s buffer t) .step .outs)
+  unfolding R
+  outputs-fit = wrote-call .fits
+
+  pub written : length (outputs ((call s buffer t) .step .outs)) ≤ 10_240
+  unfolding R
+  written = omega (arith, outputs-size ((call s buffer t) .step .outs) (wrote-call .fits), wrote-call .cost)
