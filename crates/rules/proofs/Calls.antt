@@ -78,7 +78,7 @@ module _ (t : Table) (r : LinkRec) (g : Leg) (rn : r .no ≡ t .next) (gn : g .l
       record-once m (inl z) = omega (arith, k .owned .one-record m)
       record-once m (inr z) = omega (arith, k .below m (omega arith))
 
-      none-above : (m : ℕ) → t .next + 1 ≤ m → (one (eqb m (t .next)) ≡ 0) ⊎ ((m ≡ t .next) × (one (eqb m (t .next)) ≡ 1)) → recordsOn m t + (one (eqb m (t .next)) + 0) ≡ 0
+      none-above : (m : ℕ) → (joined r g t) .next ≤ m → (one (eqb m (t .next)) ≡ 0) ⊎ ((m ≡ t .next) × (one (eqb m (t .next)) ≡ 1)) → recordsOn m t + (one (eqb m (t .next)) + 0) ≡ 0
       none-above m b (inl z) = omega (arith, k .below m (omega arith))
       none-above m b (inr z) = omega arith
 
@@ -425,8 +425,10 @@ or-right false b e = e
 
 idle-releasing : (n : ℕ) (p : Pair) (kept : Bool) (s : List LinkRec) → Idle (released n p s) (releasing n p kept s)
 unfolding releasing
-idle-releasing n p kept s = if-by (Idle (released n p s)) (not (any (numbered n) s) || kept || inUse p (released n p s)) (λ e. tt)
-    (λ e. (or-right (not (any (numbered n) s) || kept) (inUse p (released n p s)) e, tt))
+idle-releasing n p kept s =
+    let skipped : Bool = not (any (numbered n) s) || kept in
+    let used : Bool = inUse p (released n p s) in
+    if-by (Idle (released n p s)) (skipped || used) (λ e. tt) (λ e. (or-right skipped used e, tt))
 
 fine-release : (n : ℕ) (p : Pair) (kept : Bool) (t : Table) → Good t → Fine t nothing (release n p kept t)
 unfolding release released
