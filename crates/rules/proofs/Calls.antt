@@ -11,7 +11,7 @@ use lib.ListN.{length}
 use Rattle.rules.specs.Base.{if_then_else_, option, is, Bytes, same, empty, any, keep, alter, tally, one, All}
 use Rattle.rules.specs.Std.{before}
 use Rattle.rules.specs.Data.{Pair, samePair, APeer, Proven, LinkRec, Leg, Held, Memory, Table, Hello, Call, Source, Why, Transition, Installed, Output, Step, Result}
-use Rattle.rules.specs.Data.{Resend, Install, Reset, Free, Retry, Reject, Replace, Keep}
+use Rattle.rules.specs.Data.{Resend, Install, Reset, Free, Retry, Replace, Keep}
 use Rattle.rules.specs.Links.{numbered, inUse, opened, hold, path, withPath, retired, retiring, withoutPath, released, releasing}
 use Rattle.rules.specs.Legs.{onLink, answered, dialing, dialLeg, answerLeg, resent, markSent, markUnsent, due, overdue, resends}
 use Rattle.rules.specs.Settle.{withLinks, withLegs, withHeld, withGates, joined, writes, still, _▸_, ok, refuse, linkAt, legAt, named, heldAt, places, numbering, entering}
@@ -50,9 +50,9 @@ fine-says t o a k = fine-outs t (o ∷ []) (a, tt) k
 pub fine-still : (t : Table) → Good t → Fine t nothing (still t)
 fine-still t k = fine-outs t [] tt k
 
--- the lease at hand is given back
-fine-back : (t : Table) (o : Output) (lease : ℕ) → Plain o → Good t → Fine t (λ l. one (eqb l lease)) (writes (o ∷ Free lease ∷ []) t)
-fine-back t o lease a k = record { good = k; lease = λ l. omega (arith, a .0 l); unused = (rw (a .1) tt, (tt, tt)) }
+-- they give the lease at hand back, once, and change nothing
+fine-back : (t : Table) (os : List Output) (lease : ℕ) → ((l : ℕ) → given l os ≡ one (eqb l lease)) → Unused (t .links) os → Good t → Fine t (λ l. one (eqb l lease)) (writes os t)
+fine-back t os lease a q k = record { good = k; lease = λ l. omega (arith, a l); unused = q }
 
 -- ---- a new link with its leg
 
@@ -78,7 +78,7 @@ module _ (t : Table) (r : LinkRec) (g : Leg) (rn : r .no ≡ t .next) (gn : g .l
       record-once m (inl z) = omega (arith, k .owned .one-record m)
       record-once m (inr z) = omega (arith, k .below m (omega arith))
 
-      none-above : (m : ℕ) → t .next + 1 ≤ m → (one (eqb m (t .next)) ≡ 0) ⊎ ((m ≡ t .next) × (one (eqb m (t .next)) ≡ 1)) → recordsOn m t + (one (eqb m (t .next)) + 0) ≡ 0
+      none-above : (m : ℕ) → (joined r g t) .next ≤ m → (one (eqb m (t .next)) ≡ 0) ⊎ ((m ≡ t .next) × (one (eqb m (t .next)) ≡ 1)) → recordsOn m t + (one (eqb m (t .next)) + 0) ≡ 0
       none-above m b (inl z) = omega (arith, k .below m (omega arith))
       none-above m b (inr z) = omega arith
 
@@ -186,14 +186,14 @@ unfolding admit
 fair-admit now s x t k =
     let j : Source = asked s (heldAt (x .peer) t) in
     option-by (Fair t (λ l. one (eqb l (x .lease)))) (denied now j x t) (λ e. fair-admitted now j x t k)
-    (λ why e. fine-back t (Reject (some (x .peer, j)) why) (x .lease) (λ l. refl, refl) k)
+    (λ why e. fine-back t _ (x .lease) (λ l. omega arith) (tt, (tt, tt)) k)
 
 fair-msg1 : (now : ℕ) (x : Hello) (f : Bool) (t : Table) → Good t → Fair t (λ l. one (eqb l (x .lease))) (msg1 now x f t)
 unfolding msg1
 fair-msg1 now x f t k = option-by P (stored (x .from) (x .bytes) t)
     (λ e. option-by P (heldAt (x .peer) t) (λ n. fair-admit now Source.NotHeld x t k)
-    (λ h n. if-by P (not (eqb (h .epoch) (x .epoch))) (λ q. fair-admit now Source.Restart x t k) (λ q. fine-back t _ (x .lease) (λ l. refl, refl) k)))
-    (λ o e. fine-back t _ (x .lease) (λ l. refl, refl) k)
+    (λ h n. if-by P (not (eqb (h .epoch) (x .epoch))) (λ q. fair-admit now Source.Restart x t k) (λ q. fine-back t _ (x .lease) (λ l. omega arith) (tt, (tt, tt)) k)))
+    (λ o e. fine-back t _ (x .lease) (λ l. omega arith) (tt, (tt, tt)) k)
   where
     P : Result → Type 0
     P = Fair t (λ l. one (eqb l (x .lease)))
@@ -425,8 +425,10 @@ or-right false b e = e
 
 idle-releasing : (n : ℕ) (p : Pair) (kept : Bool) (s : List LinkRec) → Idle (released n p s) (releasing n p kept s)
 unfolding releasing
-idle-releasing n p kept s = if-by (Idle (released n p s)) (not (any (numbered n) s) || kept || inUse p (released n p s)) (λ e. tt)
-    (λ e. (or-right (not (any (numbered n) s) || kept) (inUse p (released n p s)) e, tt))
+idle-releasing n p kept s =
+    let skipped : Bool = not (any (numbered n) s) || kept in
+    let used : Bool = inUse p (released n p s) in
+    if-by (Idle (released n p s)) (skipped || used) (λ e. tt) (λ e. (or-right skipped used e, tt))
 
 fine-release : (n : ℕ) (p : Pair) (kept : Bool) (t : Table) → Good t → Fine t nothing (release n p kept t)
 unfolding release released

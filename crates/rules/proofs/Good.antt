@@ -85,13 +85,16 @@ not-true : (b : Bool) → not b ≡ true → b ≡ false
 not-true true e = cc
 not-true false e = refl
 
+-- what is kept is not in use
+idle-keep : (s : List LinkRec) (ps : List Pair) → Idle s (keep (λ p. not (inUse p s)) ps)
+idle-keep s ps =
+    let free : Pair → Bool = λ p. not (inUse p s) in
+    all-map (λ p. free p ≡ true) (λ p. inUse p s ≡ false) (λ p. not-true (inUse p s)) (keep free ps) (all-keep free ps)
+
 -- retiring lists what no record left uses
 pub idle-retiring : (n : ℕ) (s : List LinkRec) → Idle (retired n s) (retiring n s)
 unfolding retiring
-idle-retiring n s =
-    let left : Pair → Bool = λ p. not (inUse p (retired n s)) in
-    option-by (Idle (retired n s)) (find (numbered n) s) (λ e. tt)
-    (λ r e. all-map (λ p. left p ≡ true) (λ p. inUse p (retired n s) ≡ false) (λ p. not-true (inUse p (retired n s))) (keep left (addresses r)) (all-keep left (addresses r)))
+idle-retiring n s = option-by (Idle (retired n s)) (find (numbered n) s) (λ e. tt) (λ r e. idle-keep (retired n s) (addresses r))
 
 -- a record that is there is gone
 pub records-retired : (n : ℕ) (s : List LinkRec) → 1 ≤ tally (λ r. one (numbered n r)) s → (m : ℕ) → tally (λ r. one (numbered m r)) (retired n s) + one (eqb m n) ≡ tally (λ r. one (numbered m r)) s

@@ -126,11 +126,11 @@ module _ (t : Table) (k : Good t) (a : Holders t) where
 
   leg-promoted : (now : ℕ) (p : Bytes) (b : Answered) (g : Leg) (r : LinkRec) → legAt (g .link) t ≡ some g → Holders ((promote now p b g r t) .table)
   unfolding promote
-  leg-promoted now p b g r e = record { by-leg = leg-held g p e }
+  leg-promoted now p b g r e = record { by-leg = λ m. omega (arith, leg-held g p e m) }
 
   leg-dialed : (now : ℕ) (p : Bytes) (g : Leg) (epoch : ℕ) (from : Pair) (how : Transition) → legAt (g .link) t ≡ some g → Holders ((dialed now p g epoch from how t) .table)
   unfolding dialed
-  leg-dialed now p g epoch from how e = record { by-leg = leg-held g p e }
+  leg-dialed now p g epoch from how e = record { by-leg = λ m. omega (arith, leg-held g p e m) }
 
   holder-moves : (p : Bytes) (g : Leg) (h : Held) (from : Pair) → legAt (g .link) t ≡ some g → heldAt p t ≡ some h → Holders ((moveto p g h from t) .table)
   unfolding moveto

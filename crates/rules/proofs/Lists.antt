@@ -81,14 +81,6 @@ module _ {A : Type 0} where
         go true ih = omega (arith, k b)
         go false ih = omega arith
 
-    pub without-none : (s : List A) → find test s ≡ none → without test s ≡ s
-    without-none [] e = refl
-    without-none (b ∷ s) e = go (test b) (λ h. without-none s h) e
-      where
-        go : (c : Bool) → (find test s ≡ none → without test s ≡ s) → (if c then some b else find test s) ≡ none → (if c then s else b ∷ without test s) ≡ b ∷ s
-        go true ih h = cc
-        go false ih h = cc (ih h)
-
     -- nothing found, nothing counted
     pub tally-none : (s : List A) → find test s ≡ none → tally (λ a. one (test a)) s ≡ 0
     tally-none [] e = refl
