@@ -1,3 +1,4 @@
 pub mod Fields
 pub mod CallFits
 pub mod Records
+pub mod Time
