@@ -101,18 +101,18 @@ why-codes = record { there = there; only = each-at (refl & refl & refl & refl & 
     small : (w : Why) → whyCode w < 256
     small w = elim w [ Why.Restart ↦ lit< tt | Why.Replacement ↦ lit< tt | OwnRestart ↦ lit< tt | Ended ↦ lit< tt | Orphaned ↦ lit< tt | Disconnect ↦ lit< tt | Dead ↦ lit< tt | Admin ↦ lit< tt | Closed ↦ lit< tt ]
 
-flag-reads : Reads flag (λ b. Unit {0}) (λ b. one b ∷ [])
+pub flag-reads : Reads flag (λ b. Unit {0}) (λ b. one b ∷ [])
 flag-reads = code-reads flags one flag-codes
 
-state-reads : Reads (code states) (λ v. Unit {0}) (λ v. stateCode v ∷ [])
+pub state-reads : Reads (code states) (λ v. Unit {0}) (λ v. stateCode v ∷ [])
 state-reads = code-reads states stateCode state-codes
 
-why-reads : Reads (code whys) (λ w. Unit {0}) (λ w. whyCode w ∷ [])
+pub why-reads : Reads (code whys) (λ w. Unit {0}) (λ w. whyCode w ∷ [])
 why-reads = code-reads whys whyCode why-codes
 
 -- ---- each kind of call
 
-hello-reads : Reads hello HelloFits helloBytes
+pub hello-reads : Reads hello HelloFits helloBytes
 unfolding hello helloBytes
 hello-reads = both-ways
     (then-yields (bytes-reads 16) λ p hp. then-yields pair-reads λ f hf. then-yields message-reads λ b hb. then-yields (bytes-reads 32) λ d hd.
@@ -147,17 +147,17 @@ dial-kind = then-yields (bytes-reads 16) λ p hp. then-yields pair-reads λ t ht
 arrived-kind : ReadsKind 3 arrivedFields
 unfolding arrivedFields callBytes
 arrived-kind = then-yields pair-reads λ p hp. then-yields message-reads λ m hm.
-    give-yields (record { fits = (hp, hm); kind = refl; spelt = simp (append-assoc, append-nil) })
+    give-yields (record { fits = (hp, hm); kind = refl; spelt = simp append-nil })
 
 msg1-kind : ReadsKind 4 msg1Fields
 unfolding msg1Fields callBytes
 msg1-kind = then-yields hello-reads λ x hx. then-yields flag-reads λ f hf.
-    give-yields (record { fits = hx; kind = refl; spelt = simp (append-assoc, append-nil) })
+    give-yields (record { fits = hx; kind = refl; spelt = simp append-nil })
 
 replacement-kind : ReadsKind 5 replacementFields
 unfolding replacementFields callBytes
 replacement-kind = then-yields hello-reads λ x hx.
-    give-yields (record { fits = hx; kind = refl; spelt = simp (append-assoc, append-nil) })
+    give-yields (record { fits = hx; kind = refl; spelt = simp append-nil })
 
 msg2-kind : ReadsKind 8 msg2Fields
 unfolding msg2Fields callBytes
@@ -167,17 +167,17 @@ msg2-kind = then-yields (number-reads 8) λ n hn. then-yields (number-reads 8) �
 restarted-kind : ReadsKind 9 restartedFields
 unfolding restartedFields callBytes
 restarted-kind = then-yields (bytes-reads 16) λ p hp. then-yields (number-reads 8) λ e he.
-    give-yields (record { fits = (hp, he); kind = refl; spelt = simp (append-assoc, append-nil) })
+    give-yields (record { fits = (hp, he); kind = refl; spelt = simp append-nil })
 
 heard-kind : ReadsKind 10 heardFields
 unfolding heardFields callBytes
 heard-kind = then-yields (bytes-reads 16) λ p hp. then-yields pair-reads λ f hf.
-    give-yields (record { fits = (hp, hf); kind = refl; spelt = simp (append-assoc, append-nil) })
+    give-yields (record { fits = (hp, hf); kind = refl; spelt = simp append-nil })
 
 remove-kind : ReadsKind 11 removeFields
 unfolding removeFields callBytes
 remove-kind = then-yields (bytes-reads 16) λ p hp. then-yields why-reads λ w hw.
-    give-yields (record { fits = hp; kind = refl; spelt = simp (append-assoc, append-nil) })
+    give-yields (record { fits = hp; kind = refl; spelt = simp append-nil })
 
 path-kind : ReadsKind 14 pathFields
 unfolding pathFields callBytes
@@ -270,7 +270,7 @@ accepted-fits s x h e = (said s x h e) .means .fits
 
 -- ---- new
 
-settings-reads : Reads settings SettingsFit settingsBytes
+pub settings-reads : Reads settings SettingsFit settingsBytes
 unfolding settings settingsBytes
 settings-reads = both-ways
     (then-yields (number-reads 8) λ a ha. then-yields (number-reads 8) λ b hb. then-yields (number-reads 8) λ c hc. then-yields (number-reads 8) λ d hd.

@@ -100,6 +100,9 @@ bind-yields {A} {B} {p} {k} {Q} {R} f g = record { used = λ s b r h e. go s b r
           rest = u .rest;
         }
 
+pub bind-speaks : {A B : Type 0} (p : Reader A) (k : A → Reader B) {a : A} {u v : Bytes} {b : B} → Speaks p u a → Speaks (k a) v b → Speaks (bind p k) (u ++ v) b
+bind-speaks p k {a} {u} {v} f g = record { said = λ r. rw append-assoc (bind-at p k (u ++ (v ++ r)) a (v ++ r) (f .said (v ++ r)) ∙ g .said r) }
+
 module _ {A : Type 0} {p : Reader A} {P : A → Type 0} {w : A → Bytes} (f : Reads p P w) where
   -- p alone
   pub last-yields : {R : A → Bytes → Type 0} → ((a : A) → P a → R a (w a)) → Yields p R
@@ -114,7 +117,7 @@ module _ {A B : Type 0} {p : Reader A} {P : A → Type 0} {w : A → Bytes} (f :
   then-yields {k} {R} g = bind-yields {Q = λ a u. P a × (u ≡ w a)} (last-yields f λ a h. (h, refl)) λ a u q. rw (q .1) (g a (q .0))
 
   pub then-speaks : (k : A → Reader B) {a : A} {v : Bytes} {b : B} → P a → Speaks (k a) v b → Speaks (bind p k) (w a ++ v) b
-  then-speaks k {a} {v} {b} h g = record { said = λ r. rw append-assoc (bind-at p k (w a ++ (v ++ r)) a (v ++ r) (f .back a (v ++ r) h) ∙ g .said r) }
+  then-speaks k h g = bind-speaks p k (last-speaks f h) g
 
 -- ---- numbers and bytes
 

@@ -14,3 +14,6 @@ pub mod Widths
 pub mod Room
 pub mod Bounds
 pub mod Size
+pub mod Records
+pub mod Time
+pub mod Rows
