@@ -1,11 +1,12 @@
 -- What holds of every table that new or a call left: owners, order, limits and widths.
 use mathlib.Core.Path.{_≡_, refl, subst}
 use mathlib.Core.Bool.{Bool, true, false}
-use mathlib.Core.Option.{Option, none, some}
-use mathlib.Core.Logic.{_⊎_, inl, inr}
+use mathlib.Core.Option.{some}
+use mathlib.Core.Logic.{inl, inr}
 use mathlib.Core.List.{List, [], _∷_}
 use Prim.Native.Nat.{ℕ, _+_, _-_, _^_, _≤_, _<_}
 use native.Mathlib.Omega.{arith}
+use borrow.Author.Tests.{eqb-false}
 use lib.Dec.{eqb}
 use Rattle.rules.specs.Base.{Bytes, alter, tally, one, All}
 use Rattle.rules.specs.Time.{Params}
@@ -15,17 +16,17 @@ use Rattle.rules.specs.Legs.{onLink, dialLeg, answerLeg, resent, markSen
 use Rattle.rules.specs.Settle.{dial, answer, dialed, distinct, places, legAt, heldAt, named, displaces, removed, stamp, withLegs, _▸_}
 use Rattle.rules.specs.Record.{Timed}
 use Rattle.rules.specs.Entry.{Made, newTable, new, call}
-use Rattle.rules.specs.Claim.{Fed, play, recordsOn}
-use Rattle.rules.specs.Bounds.{IsByte, Word, Exactly, PairFits, LegFits, ParamsFit, Widths, Ordered, Limits, Bounds}
+use Rattle.rules.specs.Claim.{Fed, play}
+use Rattle.rules.specs.Bounds.{IsByte, Word, Exactly, LegFits, ParamsFit, Widths, Ordered, Limits, Bounds}
 use Rattle.rules.proofs.Lists.{eqb-sound}
 use Rattle.rules.proofs.Good.{Good}
 use Rattle.rules.proofs.Calls.{fair-call}
 use Rattle.rules.proofs.Demand.{made, good-made}
-use Rattle.rules.proofs.Walk.{Room, Brings, Numbers, Completes, Closed, walk-read}
+use Rattle.rules.proofs.Walk.{Room, Brings, Numbers, Closed, walk-read}
 use Rattle.rules.proofs.Holders.{holders-new, holders-call}
 use Rattle.rules.proofs.CallFits.{HelloFits, DialFits, CallFits, TimedFits, accepted-fits, begun-fits, params-fit}
-use Rattle.rules.proofs.Order.{eqb-apart, contra, find-none, ordered-joined, ordered-ends, ordered-removed, removed-gone, ordered-stamp, ordered-path, ordered-release, ordered-legs, ordered-restarted, ordered-heard, ordered-promote, ordered-dialed, ordered-moveto, ordered-close-legs}
-use Rattle.rules.proofs.Widths.{leg-fits, held-fits, link-fits, resent-fits, sent-fits, unsent-fits, if-any, widths-dial, widths-answer, widths-legs, widths-ends, widths-removed, widths-stamp, widths-promote, widths-dialed, widths-moveto, widths-restarted, widths-heard, widths-close-legs, widths-path, widths-release}
+use Rattle.rules.proofs.Order.{find-none, ordered-joined, ordered-ends, ordered-removed, removed-gone, ordered-stamp, ordered-path, ordered-release, ordered-legs, ordered-restarted, ordered-heard, ordered-promote, ordered-dialed, ordered-moveto, ordered-close-legs}
+use Rattle.rules.proofs.Widths.{leg-fits, link-fits, resent-fits, sent-fits, unsent-fits, if-any, widths-dial, widths-answer, widths-legs, widths-ends, widths-removed, widths-stamp, widths-promote, widths-dialed, widths-moveto, widths-restarted, widths-heard, widths-close-legs, widths-path, widths-release}
 use Rattle.rules.proofs.Room.{Stays, stays-ends, stays-removed, stays-stamp, stays-promote, stays-dialed, stays-moveto, stays-legs, stays-restarted, stays-heard, stays-path, stays-release, stays-close-legs, stays-displaced, limits-stays, limits-joined}
 
 -- ---- one call
@@ -41,7 +42,7 @@ stays {t} {u} y s o w = record { ordered = o; limits = limits-stays t (y .limits
 
 -- refusal 4 leaves a number for the link after
 next-word : (n : ℕ) → Word n → eqb n (2 ^ 64 - 1) ≡ false → Word (n + 1)
-next-word n w e = omega (arith, eqb-apart n (2 ^ 64 - 1) e)
+next-word n w e = omega (arith, eqb-false n (2 ^ 64 - 1) e)
 
 module _ (x : Timed) (f : TimedFits x) where
   -- what the call brings is within its widths

@@ -1,40 +1,24 @@
--- What the gates keep of a peer stays within its widths and limits, and times stay readings.
+-- What the gates keep of a peer stays within its widths and limits.
 use mathlib.Core.Path.{_≡_, refl}
-use mathlib.Core.Bool.{Bool, true, false, not, _&&_, _||_}
+use mathlib.Core.Bool.{false, _||_}
 use mathlib.Core.Option.{Option, none, some}
-use mathlib.Core.List.{List, [], _∷_, _++_, map, tail}
-use Prim.Native.Nat.{ℕ, zero, suc, _+_, _-_, _^_, _≤_, _<_, min}
+use mathlib.Core.List.{List, [], _∷_, _++_, tail}
+use Prim.Native.Nat.{ℕ, _+_, _-_, _^_, _≤_, _<_}
 use native.Mathlib.Omega.{arith}
-use lib.Dec.{eqb, leb, ltb}
+use borrow.Author.Tests.{ltb-false, eqb-false}
+use lib.Dec.{eqb, ltb}
 use lib.ListN.{length}
-use Rattle.rules.specs.Base.{if_then_else_, option, is, orElse, Bytes, same, empty, find, without, any, keep, All}
-use Rattle.rules.specs.Std.{Duration, asNanos, fromNanos, isZero, half, checkedAdd, lastReading, saturatingAdd, u32Max, insert}
-use Rattle.rules.specs.Time.{Params, reach, deadline, backoff}
+use Rattle.rules.specs.Base.{if_then_else_, option, orElse, Bytes, same, find, without, any, All}
+use Rattle.rules.specs.Std.{saturatingAdd}
+use Rattle.rules.specs.Time.{Params}
 use Rattle.rules.specs.Data.{Memory, Replay, Silence}
-use Rattle.rules.specs.Gates.{memoryOf, earlierMemory, blank, remembers, memory, store, recent, recentReplays, seenIn, stamped, clear, prune, limited, noted, promoted, expired, differ, counting, countedWith, silenced, ended}
+use Rattle.rules.specs.Gates.{memoryOf, earlierMemory, remembers, memory, store, recent, recentReplays, seenIn, stamped, clear, prune, limited, noted, promoted, expired, differ, counting, countedWith, silenced, ended}
 use Rattle.rules.specs.Bounds.{Word, Exactly, IfAny, ParamsFit, ReplayFits, SilenceFits, MemoryFits}
 use Rattle.rules.proofs.Lists.{if-by, option-by, eqb-sound, all-append}
-use Rattle.rules.proofs.Order.{leb-le, ltb-ge, eqb-apart, contra, all-find, all-without, all-kept, all-insert, length-keep, length-snoc}
+use Rattle.rules.proofs.Time.{deadline-word}
+use Rattle.rules.proofs.Order.{all-find, all-without, all-kept, all-insert, length-keep, length-snoc}
 
--- ---- times
-
-added-word : (now : ℕ) (d : Duration) (at : ℕ) → checkedAdd now d ≡ some at → Word at
-unfolding checkedAdd
-added-word now d at e = go (leb (now + asNanos d) lastReading) refl e
-  where
-    go : (b : Bool) → leb (now + asNanos d) lastReading ≡ b → (if b then some (now + asNanos d) else none) ≡ some at → Word at
-    go true l h = let z : now + asNanos d ≡ at = cc in omega (arith, leb-le (now + asNanos d) lastReading l)
-    go false l h = contra (cc)
-
-reach-word : (turns now : ℕ) (d : Duration) → Word now → Word (reach turns now d)
-unfolding reach
-reach-word zero now d h = h
-reach-word (suc k) now d h = option-by Word (checkedAdd now d) (λ e. if-by Word (isZero d) (λ z. h) (λ z. reach-word k now (half d) h)) (λ at e. added-word now d at e)
-
-pub deadline-word : (now : ℕ) (d : Duration) → Word now → Word (deadline now d)
-unfolding deadline
-deadline-word now d h = reach-word 64 now _ h
-
+-- a count stays a u32
 pub counter-word : (n : ℕ) → saturatingAdd n 1 < 2 ^ 32
 counter-word n = omega arith
 
@@ -80,7 +64,7 @@ all-tail P [] p = tt
 all-tail P (a ∷ s) p = p .1
 
 limited-length : {A : Type 0} (n : ℕ) (s : List A) → length s ≤ n + 1 → length (limited n s) ≤ n
-limited-length {A} n s h = if-by (λ (u : List A). length u ≤ n) (ltb n (length s)) (λ e. omega (arith, length-tail s)) (λ e. ltb-ge n (length s) e)
+limited-length {A} n s h = if-by (λ (u : List A). length u ≤ n) (ltb n (length s)) (λ e. omega (arith, length-tail s)) (λ e. ltb-false n (length s) e)
 
 pub promoted-sizes : (c : Params) (now : ℕ) (e : Bytes) (m : Memory) → Word now → Exactly 32 e → Sizes c m → Sizes c (promoted c now e m)
 unfolding promoted prune
@@ -118,9 +102,9 @@ module _ (c : Params) (now : ℕ) (w : Word now) (k : ParamsFit c) where
   counted-limit : (o : Option Bytes) (s : List Bytes) → length s ≤ c .counted → length (countedWith c o s) ≤ c .counted
   unfolding countedWith
   counted-limit none s h = h
-  counted-limit (some e) s h = rw (length-snoc (if eqb (length s) (c .counted) then tail s else s) e)
-      (if-by (λ (u : List Bytes). length u + 1 ≤ c .counted) (eqb (length s) (c .counted))
-      (λ z. omega (arith, length-tail s, eqb-sound (length s) (c .counted) z, k .some-counted)) (λ z. omega (arith, eqb-apart (length s) (c .counted) z)))
+  counted-limit (some e) s h = if-by (λ (u : List Bytes). length (u ++ (e ∷ [])) ≤ c .counted) (eqb (length s) (c .counted))
+      (λ z. omega (arith, length-snoc (tail s) e, length-tail s, eqb-sound (length s) (c .counted) z, k .some-counted))
+      (λ z. omega (arith, length-snoc s e, eqb-false (length s) (c .counted) z))
 
   counted-fits : (o : Option Bytes) (s : List Bytes) → IfAny (Exactly 32) o → All (Exactly 32) s → All (Exactly 32) (countedWith c o s)
   unfolding countedWith

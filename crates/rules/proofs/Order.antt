@@ -1,13 +1,14 @@
 -- Lists that lose, gain or change one element: their lengths, what holds of each element, and their order; then the order of every map.
 use mathlib.Core.Path.{_≡_, refl, sym, ap, subst}
-use mathlib.Core.Bool.{Bool, true, false, not, _&&_, _||_}
-use mathlib.Core.Option.{Option, none, some}
+use mathlib.Core.Bool.{Bool, true, false, _&&_}
+use mathlib.Core.Option.{none, some}
 use mathlib.Core.List.{List, [], _∷_, _++_, map}
 use Prim.Native.Nat.{ℕ, suc, _+_, _≤_, _<_}
 use native.Mathlib.Omega.{arith}
-use lib.Dec.{T, eqb, leb, ltb, leb→le, nleb→lt, ltb→lt, nltb→le, lt→ltb}
+use borrow.Author.Tests.{ltb-true, ltb-false, eqb-false, lt-ltb}
+use lib.Dec.{T, eqb, ltb}
 use lib.ListN.{length}
-use Rattle.rules.specs.Base.{if_then_else_, option, Bytes, same, find, without, alter, any, keep, tally, one, All}
+use Rattle.rules.specs.Base.{if_then_else_, Bytes, same, find, without, alter, keep, tally, one, All}
 use Rattle.rules.specs.Std.{before, Ascending, insert}
 use Rattle.rules.specs.Data.{Pair, APeer, Proven, LinkRec, Answered, Leg, Held, Memory, Table, Step, Why, Transition}
 use Rattle.rules.specs.Links.{numbered, heldBy, hold, withPath, path, retired, withoutPath, released}
@@ -17,38 +18,11 @@ use Rattle.rules.specs.Settle.{withLinks, withLegs, withHeld, withGates,
 use Rattle.rules.specs.Bounds.{earlierLink, earlierLeg, Ordered}
 use Rattle.rules.proofs.Lists.{if-by, option-by, eqb-sound, eqb-same, all-append, all-map}
 use Rattle.rules.proofs.Good.{Good}
-use Rattle.rules.proofs.Peers.{same-sound, same-refl}
-
--- ---- tests of numbers as facts
-
-pub T-of : (b : Bool) → b ≡ true → T b
-T-of b e = subst T (sym e) tt
-
-pub true-of : (b : Bool) → T b → b ≡ true
-true-of true h = refl
-true-of false h = absurd h
-
-pub leb-le : (m n : ℕ) → leb m n ≡ true → m ≤ n
-leb-le m n e = leb→le m n (T-of _ e)
-
-pub leb-gt : (m n : ℕ) → leb m n ≡ false → n < m
-leb-gt m n e = nleb→lt m n (T-of (not (leb m n)) (rw e))
-
-pub ltb-lt : (m n : ℕ) → ltb m n ≡ true → m < n
-ltb-lt m n e = ltb→lt m n (T-of _ e)
-
-pub ltb-ge : (m n : ℕ) → ltb m n ≡ false → n ≤ m
-ltb-ge m n e = nltb→le m n (T-of (not (ltb m n)) (rw e))
-
-pub lt-ltb : (m n : ℕ) → m < n → ltb m n ≡ true
-lt-ltb m n h = true-of _ (lt→ltb m n h)
-
-pub eqb-apart : (m n : ℕ) → eqb m n ≡ false → m ≡ n → ⊥
-eqb-apart m n e f = let z : _≡_ {A = ℕ} 0 1 = cc (eqb-same m) in omega arith
+use Rattle.rules.proofs.Peers.{same-sound}
 
 -- the two tests cannot be one
 pub contra : {A : Type 0} → _≡_ {A = Bool} true false → A
-contra e = absurd (T-of false (sym e))
+contra e = absurd (subst T e tt)
 
 -- ---- lists of any element
 
@@ -81,9 +55,9 @@ module _ {A : Type 0} where
   pub all-alter : (P : A → Type 0) (test : A → Bool) (f : A → A) (s : List A) → ((a : A) → P a → P (f a)) → All P s → All P (alter test f s)
   all-alter P test f s k p = all-alter-found P test f s (λ a e. k a) p
 
-  pub all-both : (P Q R : A → Type 0) → ((a : A) → P a → Q a → R a) → (s : List A) → All P s → All Q s → All R s
-  all-both P Q R h [] p q = tt
-  all-both P Q R h (a ∷ s) p q = (h a (p .0) (q .0), all-both P Q R h s (p .1) (q .1))
+  pub all-mapped : {B : Type 0} (f : A → B) (P : B → Type 0) (s : List A) → All (λ a. P (f a)) s → All P (map f s)
+  all-mapped f P [] p = tt
+  all-mapped f P (a ∷ s) p = (p .0, all-mapped f P s (p .1))
 
   pub length-without : (test : A → Bool) (s : List A) → length (without test s) ≤ length s
   length-without test [] = omega arith
@@ -182,8 +156,8 @@ before-trans (x ∷ a) (y ∷ b) (z ∷ c) e f = go (eqb x y) refl (eqb y z) ref
     go false p false q ih e f = apart (eqb x z) refl
       where
         apart : (k : Bool) → eqb x z ≡ k → (if k then before a c else ltb x z) ≡ true
-        apart true r = absurd (omega (arith, ltb-lt x y e, ltb-lt y z f, eqb-sound x z r))
-        apart false r = lt-ltb x z (omega (arith, ltb-lt x y e, ltb-lt y z f))
+        apart true r = absurd (omega (arith, ltb-true x y e, ltb-true y z f, eqb-sound x z r))
+        apart false r = lt-ltb x z (omega (arith, ltb-true x y e, ltb-true y z f))
 
 pub before-other : (a b : Bytes) → same a b ≡ false → before a b ≡ false → before b a ≡ true
 before-other [] [] d e = cc
@@ -196,8 +170,8 @@ before-other (x ∷ a) (y ∷ b) d e = go (eqb x y) refl (before-other a b) d e
     go false p ih d e = apart (eqb y x) refl
       where
         apart : (k : Bool) → eqb y x ≡ k → (if k then before b a else ltb y x) ≡ true
-        apart true r = absurd (eqb-apart x y p (sym (eqb-sound y x r)))
-        apart false r = lt-ltb y x (omega (arith, ltb-ge x y e, eqb-apart x y p))
+        apart true r = absurd (eqb-false x y p (sym (eqb-sound y x r)))
+        apart false r = lt-ltb y x (omega (arith, ltb-false x y e, eqb-false x y p))
 
 pub before-apart : (a b : Bytes) → before a b ≡ true → same a b ≡ false
 before-apart [] [] e = cc
@@ -255,8 +229,8 @@ legs-below n [] h = tt
 legs-below n (g ∷ s) h = (go (ltb (g .link) n) refl, legs-below n s (λ m l. omega (arith, h m l)))
   where
     go : (b : Bool) → ltb (g .link) n ≡ b → g .link < n
-    go true e = ltb-lt (g .link) n e
-    go false e = absurd (omega (arith, h (g .link) (ltb-ge (g .link) n e), ap one (eqb-same (g .link))))
+    go true e = ltb-true (g .link) n e
+    go false e = absurd (omega (arith, h (g .link) (ltb-false (g .link) n e), ap one (eqb-same (g .link))))
 
 module _ (t : Table) (k : Ordered t) where
   pub ordered-joined : (r : LinkRec) (g : Leg) → r .no ≡ t .next → g .link ≡ t .next → Good t → Ordered (joined r g t)

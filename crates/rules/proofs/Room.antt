@@ -3,23 +3,24 @@ use mathlib.Core.Path.{_≡_, refl, sym, ap, subst}
 use mathlib.Core.Bool.{Bool, true, false, not, _&&_, _||_}
 use mathlib.Core.Option.{Option, none, some}
 use mathlib.Core.List.{List, [], _∷_, _++_, map}
-use Prim.Native.Nat.{ℕ, suc, _+_, _≤_, _<_}
+use Prim.Native.Nat.{ℕ, _+_, _≤_}
 use native.Mathlib.Omega.{arith}
-use lib.Dec.{eqb, leb}
+use borrow.Author.Tests.{leb-false}
+use lib.Dec.{leb}
 use lib.ListN.{length}
 use Rattle.rules.specs.Base.{if_then_else_, option, Bytes, same, find, without, alter, any, tally, one, All}
 use Rattle.rules.specs.Std.{before, Ascending}
 use Rattle.rules.specs.Data.{Pair, APeer, Proven, LinkRec, Answered, Leg, Held, Memory, Table, Step, Hello, Source, Why, Transition, Inbound}
 use Rattle.rules.specs.Links.{numbered, opened, heldBy, hold, withPath, path, retired, withoutPath, released}
-use Rattle.rules.specs.Legs.{onLink, dialLeg, answerLeg}
+use Rattle.rules.specs.Legs.{onLink, answerLeg}
 use Rattle.rules.specs.Gates.{remembers, memoryOf, earlierMemory, memory, store, stamped, promoted, clear, ended}
-use Rattle.rules.specs.Settle.{withLinks, withLegs, withHeld, withGates, joined, legAt, heldAt, named, earlierHeld, peerOf, legPeers, distinct, namedPeers, places, dial, installs, ends, parted, removed, displaces, answer, stamp, promote, dialed, movedTo, moveto, withEpoch, restarted, heardFrom, heard, retireds, closeLegs}
+use Rattle.rules.specs.Settle.{withLinks, withLegs, withHeld, withGates, joined, legAt, heldAt, named, earlierHeld, peerOf, legPeers, distinct, namedPeers, places, installs, ends, parted, removed, displaces, answer, stamp, promote, dialed, movedTo, moveto, withEpoch, restarted, heardFrom, heard, retireds, closeLegs}
 use Rattle.rules.specs.Bounds.{IfAny, Ordered, Limits}
 use Rattle.rules.proofs.Lists.{if-by, option-by, eqb-same, find-test, tally-found, all-append, all-map}
 use Rattle.rules.proofs.Good.{Good, records-hold, records-retired, leg-record, held-record}
-use Rattle.rules.proofs.Calls.{fine-removed, good-stamp}
-use Rattle.rules.proofs.Peers.{same-sound, same-refl, or-true-right, or-true-left, Within, within-length}
-use Rattle.rules.proofs.Order.{contra, leb-gt, all-find, all-without, all-alter, all-insert, length-without, length-less, length-alter, length-snoc, length-insert, before-apart}
+use Rattle.rules.proofs.Calls.{good-stamp}
+use Rattle.rules.proofs.Peers.{same-sound, or-true-right, Within, within-length}
+use Rattle.rules.proofs.Order.{contra, all-find, all-without, all-alter, all-insert, all-mapped, length-without, length-less, length-alter, length-snoc, length-insert, before-apart}
 
 -- ---- who has no place
 
@@ -48,14 +49,9 @@ module _ {A : Type 0} where
   all-split P [] u p = (tt, p)
   all-split P (a ∷ s) u p = let x = all-split P s u (p .1) in ((p .0, x .0), x .1)
 
-  module _ {B : Type 0} (f : A → B) (P : B → Type 0) where
-    to-map : (s : List A) → All (λ a. P (f a)) s → All P (map f s)
-    to-map [] p = tt
-    to-map (a ∷ s) p = (p .0, to-map s (p .1))
-
-    of-map : (s : List A) → All P (map f s) → All (λ a. P (f a)) s
-    of-map [] p = tt
-    of-map (a ∷ s) p = (p .0, of-map s (p .1))
+  of-map : {B : Type 0} (f : A → B) (P : B → Type 0) (s : List A) → All P (map f s) → All (λ a. P (f a)) s
+  of-map f P [] p = tt
+  of-map f P (a ∷ s) p = (p .0, of-map f P s (p .1))
 
 module _ (P : Bytes → Type 0) where
   to-legs : (s : List Leg) → All (λ g. IfAny P (g .peer)) s → All P (legPeers s)
@@ -87,8 +83,8 @@ module _ (q : Bytes) (t : Table) where
   of-absent x =
       let h : List Bytes = map (λ h. h .peer) (t .held) in
       any-none (same q) (namedPeers t) (all-append (Other q) (h ++ legPeers (t .legs)) (map (λ m. m .peer) (t .gates))
-      (all-append (Other q) h (legPeers (t .legs)) (to-map (λ h. h .peer) (Other q) (t .held) (x .held)) (to-legs (Other q) (t .legs) (x .legs)))
-      (to-map (λ m. m .peer) (Other q) (t .gates) (x .gates)))
+      (all-append (Other q) h (legPeers (t .legs)) (all-mapped (λ h. h .peer) (Other q) (t .held) (x .held)) (to-legs (Other q) (t .legs) (x .legs)))
+      (all-mapped (λ m. m .peer) (Other q) (t .gates) (x .gates)))
 
 -- no new peer, or one: no more places, or one
 within : (t u : Table) → ((q : Bytes) → Absent q t → Absent q u) → Within (namedPeers u) (namedPeers t)
@@ -301,7 +297,7 @@ distinct-keys : (s : List Memory) → Ascending earlierMemory s → length (dist
 unfolding distinct
 distinct-keys [] h = refl
 distinct-keys (m ∷ s) h =
-    let apart : any (same (m .peer)) (map (λ k. k .peer) s) ≡ false = any-none (same (m .peer)) (map (λ k. k .peer) s) (to-map (λ k. k .peer) (Other (m .peer)) s (all-map (λ k. before (m .peer) (k .peer) ≡ true) (λ k. Other (m .peer) (k .peer)) (λ k. before-apart (m .peer) (k .peer)) s (h .0))) in
+    let apart : any (same (m .peer)) (map (λ k. k .peer) s) ≡ false = any-none (same (m .peer)) (map (λ k. k .peer) s) (all-mapped (λ k. k .peer) (Other (m .peer)) s (all-map (λ k. before (m .peer) (k .peer) ≡ true) (λ k. Other (m .peer) (k .peer)) (λ k. before-apart (m .peer) (k .peer)) s (h .0))) in
     rw apart (omega (arith, distinct-keys s (h .1)))
 
 any-right : {A : Type 0} (test : A → Bool) (s u : List A) → any test u ≡ true → any test (s ++ u) ≡ true
@@ -337,7 +333,7 @@ module _ (t : Table) (k : Limits t) where
   pub limits-joined : (r : LinkRec) (g : Leg) (p : Bytes) → Ordered (joined r g t) → g .peer ≡ some p → leb 32 (length (t .links)) ≡ false → not (any (same p) (places t)) && leb 32 (length (places t)) ≡ false → Limits (joined r g t)
   unfolding places distinct
   limits-joined r g p o a b c = let fit = fits in record {
-    links = omega (arith, length-snoc (t .links) r, leb-gt 32 (length (t .links)) b);
+    links = omega (arith, length-snoc (t .links) r, leb-false 32 (length (t .links)) b);
     owners = omega (arith, length-snoc (t .links) r, length-snoc (t .legs) g, k .owners);
     places = fit;
     gates = omega (arith, gates-placed (joined r g t) o);
@@ -348,7 +344,7 @@ module _ (t : Table) (k : Limits t) where
         where
           go : (x : Bool) → not x && leb 32 (length (distinct (namedPeers t))) ≡ false → length (if x then distinct (namedPeers t) else p ∷ distinct (namedPeers t)) ≤ 32
           go true h = k .places
-          go false h = omega (arith, leb-gt 32 (length (distinct (namedPeers t))) h)
+          go false h = omega (arith, leb-false 32 (length (distinct (namedPeers t))) h)
 
       fits : length (distinct (namedPeers (joined r g t))) ≤ 32
       fits = omega (

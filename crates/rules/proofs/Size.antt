@@ -1,28 +1,29 @@
 -- What a call writes: each output within its widths, and all of them within 10,240 bytes.
-use mathlib.Core.Path.{_≡_, refl}
+use mathlib.Core.Path.{_≡_}
 use mathlib.Core.Bool.{Bool, true, false, not, _&&_, _||_}
 use mathlib.Core.Option.{Option, none, some}
 use mathlib.Core.List.{List, [], _∷_, _++_, map}
-use Prim.Native.Nat.{ℕ, zero, suc, _+_, _-_, _*_, _/_, _%_, _^_, _≤_, _<_, min}
+use Prim.Native.Nat.{ℕ, suc, _+_, _-_, _*_, _^_, _≤_, _<_, min}
 use native.Mathlib.Omega.{arith}
 use lib.Dec.{eqb, leb, ltb}
 use lib.ListN.{length, length-append, length-map}
 use Rattle.rules.specs.Base.{if_then_else_, option, is, orElse, Bytes, same, empty, find, any, keep, tally, All}
 use Rattle.rules.specs.Std.{before}
-use Rattle.rules.specs.Data.{Pair, samePair, APeer, Proven, PathRec, LinkRec, Answered, Kind, Leg, Held, Table, Hello, Call, Source, Why, Refusal, Denial, Full, Gate, Transition, Installed, Output, Step, Result}
-use Rattle.rules.specs.Data.{Opened, Resend, Rekey, Install, Reset, Retire, Free, Retry, Reject, Promote, Replace, Move, Keep, Roam}
+use Rattle.rules.specs.Data.{Pair, samePair, APeer, Proven, LinkRec, Leg, Held, Table, Hello, Call, Source, Why, Transition, Installed, Output, Step, Result}
+use Rattle.rules.specs.Data.{Opened, Resend, Rekey, Install, Reset, Retire, Free, Retry, Reject}
 use Rattle.rules.specs.Links.{numbered, indexed, inUse, hold, once, addresses, retired, retiring, released, releasing}
 use Rattle.rules.specs.Legs.{onLink, answered, dialing, storedMsg2, due, overdue, resends, wake, nextWake}
-use Rattle.rules.specs.Settle.{still, writes, _▸_, ok, refuse, legAt, heldAt, linkAt, named, numbering, entering, dial, ends, abandon, Stored, storedOn, storedIn, stored, full, arrived, closes, retries, parted, removed, remove, denied, asked, displaces, answer, stamp, admitted, admit, attributed, msg1, promote, sent, unsent, dialed, moveto, own, msg2, restarted, heard, abandons, poll, retireds, retirings, closeLegs, removes, close, crowded, addPath, release, step, places}
-use Rattle.rules.specs.Field.{digits, pairBytes, messageBytes, frame}
+use Rattle.rules.specs.Settle.{still, _▸_, legAt, heldAt, linkAt, named, numbering, entering, dial, ends, abandon, Stored, storedOn, storedIn, stored, full, arrived, closes, retries, removed, remove, denied, asked, displaces, answer, stamp, admitted, admit, msg1, promote, sent, unsent, dialed, moveto, own, msg2, restarted, heard, abandons, poll, retirings, closeLegs, removes, close, crowded, addPath, release, step, places}
+use Rattle.rules.specs.Field.{pairBytes, messageBytes, frame}
 use Rattle.rules.specs.Output.{pairsBytes, listBytes, installBytes, outputBytes, outputRecord, outputs}
-use Rattle.rules.specs.Record.{Timed, readCall}
+use Rattle.rules.specs.Record.{readCall}
 use Rattle.rules.specs.Entry.{call}
-use Rattle.rules.specs.Bounds.{IsByte, Word, Exactly, AtMost, IfAny, PairFits, LinkFits, AnsweredFits, KindFits, LegFits, HeldFits, Widths, Limits, Bounds}
+use Rattle.rules.specs.Bounds.{IsByte, Word, Exactly, AtMost, IfAny, PairFits, LinkFits, LegFits, HeldFits, Widths, Limits, Bounds}
 use Rattle.rules.proofs.Lists.{if-by, option-by, tally-append, all-append, all-map}
 use Rattle.rules.proofs.Good.{own-link}
-use Rattle.rules.proofs.CallFits.{HelloFits, DialFits, CallFits, TimedFits, accepted-fits}
-use Rattle.rules.proofs.Order.{contra, all-find, all-without, all-kept, length-less, length-keep, length-snoc}
+use Rattle.rules.proofs.Fields.{length-digits}
+use Rattle.rules.proofs.CallFits.{HelloFits, CallFits, accepted-fits}
+use Rattle.rules.proofs.Order.{all-find, all-without, all-kept, all-mapped, length-less, length-keep}
 use Rattle.rules.proofs.Widths.{leg-fits, held-fits, link-fits, answered-fits, if-any, hold-fits, widths-ends, widths-removed, widths-stamp, widths-close-legs}
 
 -- ---- outputs within their widths
@@ -74,14 +75,9 @@ cost (Retry p) = 20
 cost (Reject o w) = 23
 cost (Output.Wake o) = 13
 
-digits-length : (n v : ℕ) → length (digits n v) ≡ n
-unfolding digits
-digits-length zero v = refl
-digits-length (suc n) v = omega (arith, length-snoc (digits n (v / 256)) (v % 256), digits-length n (v / 256))
-
 pair-size : (p : Pair) → PairFits p → length (pairBytes p) ≤ 53
 unfolding pairBytes
-pair-size p f = simp (length-append, digits-length) (omega (arith, f .addr .size))
+pair-size p f = simp (length-append, length-digits) (omega (arith, f .addr .size))
 
 pairs-size : (s : List Pair) → All PairFits s → length (pairsBytes s) ≤ 53 * length s
 pairs-size [] f = omega arith
@@ -89,38 +85,38 @@ pairs-size (p ∷ s) f = omega (arith, length-append (pairBytes p) (pairsBytes s
 
 list-size : (s : List Pair) → All PairFits s → length (listBytes s) ≤ 1 + 53 * length s
 unfolding listBytes
-list-size s f = simp (length-append, digits-length) (omega (arith, pairs-size s f))
+list-size s f = simp (length-append, length-digits) (omega (arith, pairs-size s f))
 
 message-size : (m : Bytes) → AtMost 128 m → length (messageBytes m) ≤ 130
 unfolding messageBytes
-message-size m f = simp (length-append, digits-length) (omega (arith, f .size))
+message-size m f = simp (length-append, length-digits) (omega (arith, f .size))
 
 install-size : (i : Installed) → InstalledFits i → length (installBytes i) ≤ 83
 unfolding installBytes
-install-size i f = simp (length-append, digits-length) (omega (arith, f .peer .size, pair-size (i .pair) (f .pair)))
+install-size i f = simp (length-append, length-digits) (omega (arith, f .peer .size, pair-size (i .pair) (f .pair)))
 
 output-size : (o : Output) → OutputFits o → length (outputBytes o) + 4 ≤ cost o
 unfolding outputBytes
-output-size (Opened n) f = simp digits-length (omega arith)
-output-size (Output.Answer n b m) f = simp (length-append, digits-length) (omega (arith, message-size m (f .1)))
-output-size (Resend n m) f = simp (length-append, digits-length) (omega (arith, message-size m (f .1)))
+output-size (Opened n) f = simp length-digits (omega arith)
+output-size (Output.Answer n b m) f = simp (length-append, length-digits) (omega (arith, message-size m (f .1)))
+output-size (Resend n m) f = simp (length-append, length-digits) (omega (arith, message-size m (f .1)))
 output-size (Rekey p a b) f = simp length-append (omega (arith, f .size))
 output-size (Install i) f = omega (arith, install-size i f)
 output-size (Reset p k) f = simp length-append (omega (arith, f .size))
 output-size (Output.Remove p w) f = simp length-append (omega (arith, f .size))
-output-size (Retire n ps) f = simp (length-append, digits-length) (omega (arith, list-size ps (f .1 .each)))
-output-size (Output.Release n ps) f = simp (length-append, digits-length) (omega (arith, list-size ps (f .1 .each)))
+output-size (Retire n ps) f = simp (length-append, length-digits) (omega (arith, list-size ps (f .1 .each)))
+output-size (Output.Release n ps) f = simp (length-append, length-digits) (omega (arith, list-size ps (f .1 .each)))
 output-size (Output.Close ps) f = omega (arith, list-size ps (f .each))
-output-size (Free l) f = simp digits-length (omega arith)
+output-size (Free l) f = simp length-digits (omega arith)
 output-size (Retry p) f = omega (arith, f .size)
 output-size (Reject none w) f = omega arith
 output-size (Reject (some (p, s)) w) f = simp length-append (omega (arith, f .size))
 output-size (Output.Wake none) f = omega arith
-output-size (Output.Wake (some n)) f = simp digits-length (omega arith)
+output-size (Output.Wake (some n)) f = simp length-digits (omega arith)
 
 record-size : (o : Output) → length (outputRecord o) ≡ length (outputBytes o) + 4
 unfolding outputRecord frame
-record-size o = simp (length-append, digits-length) (omega arith)
+record-size o = simp (length-append, length-digits) (omega arith)
 
 pub outputs-size : (os : List Output) → All OutputFits os → length (outputs os) ≤ tally cost os
 unfolding outputs
@@ -150,16 +146,12 @@ once-fits seen (p ∷ s) f = if-by (ListFits (suc (length s))) (any (samePair p)
     (λ e. let x = once-fits seen s (f .1) in record { size = omega (arith, x .size); each = x .each })
     (λ e. let x = once-fits (p ∷ seen) s (f .1) in record { size = omega (arith, x .size); each = (f .0, x .each) })
 
-all-pairs : (s : List PathRec) → All (λ w. PairFits (w .pair)) s → All PairFits (map (λ w. w .pair) s)
-all-pairs [] f = tt
-all-pairs (w ∷ s) f = (f .0, all-pairs s (f .1))
-
 -- a link's setup and its four paths
 retiring-fits : (n : ℕ) (s : List LinkRec) → All LinkFits s → ListFits 5 (retiring n s)
 unfolding retiring addresses
 retiring-fits n s k = option-by (ListFits 5) (find (numbered n) s) (λ e. record { size = omega arith; each = tt }) λ r e.
     let f = all-find LinkFits (numbered n) s r e k in
-    let x = once-fits [] (r .setup ∷ map (λ w. w .pair) (r .paths)) (f .setup, all-pairs (r .paths) (f .paths)) in
+    let x = once-fits [] (r .setup ∷ map (λ w. w .pair) (r .paths)) (f .setup, all-mapped (λ w. w .pair) PairFits (r .paths) (f .paths)) in
     record {
       size = omega (arith, f .four, x .size, length-map (r .paths) (λ w. w .pair), length-keep (λ p. not (inUse p (retired n s))) (addresses r));
       each = all-kept PairFits (λ p. not (inUse p (retired n s))) (addresses r) (x .each);
@@ -293,10 +285,6 @@ frees : (s : List Leg) → All LegFits s → Wrote (8 * length s) (map (λ g. Fr
 frees [] f = record { fits = tt; cost = omega arith }
 frees (g ∷ s) f = let x = frees s (f .1) in record { fits = (f .0 .lease, x .fits); cost = omega (arith, x .cost) }
 
-all-peers : (s : List Held) → All HeldFits s → All (Exactly 16) (map (λ h. h .peer) s)
-all-peers [] f = tt
-all-peers (h ∷ s) f = (f .0 .peer, all-peers s (f .1))
-
 abbrev Enough : List Output → Type 0
 Enough os = Wrote 10_240 os
 
@@ -336,7 +324,7 @@ module _ (t : Table) (k : Widths t) (l : Limits t) where
   wrote-close now w =
       let u : Step = closeLegs t in
       let x = wrote-close-legs in
-      let y = spends-removes now (map (λ h. h .peer) (t .held)) (u .table) w (all-peers (t .held) (k .held)) (widths-close-legs t k) in
+      let y = spends-removes now (map (λ h. h .peer) (t .held)) (u .table) w (all-mapped (λ h. h .peer) (Exactly 16) (t .held) (all-map HeldFits (λ h. Exactly 16 (h .peer)) (λ h f. f .peer) (t .held) (k .held))) (widths-close-legs t k) in
       let v : List Output = (removes now (map (λ h. h .peer) (t .held)) (u .table)) .outs in
       record { fits = all-append OutputFits (u .outs) v (x .fits) (y .fits); cost = omega (arith, tally-append cost (u .outs) v, x .cost, y .cost, l .links, l .owners) }
 

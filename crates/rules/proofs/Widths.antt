@@ -1,25 +1,26 @@
 -- Every number and every row of bytes of the table stays within its width: what each kind of change keeps.
-use mathlib.Core.Path.{_≡_, refl, subst}
-use mathlib.Core.Bool.{Bool, true, false, not, _&&_, _||_}
+use mathlib.Core.Path.{_≡_, subst}
+use mathlib.Core.Bool.{Bool, true, false, not, _&&_}
 use mathlib.Core.Option.{Option, none, some}
-use mathlib.Core.List.{List, [], _∷_, _++_, map}
+use mathlib.Core.List.{List, [], _∷_, _++_}
 use Prim.Native.Nat.{ℕ, _+_, _^_, _≤_, _<_}
 use native.Mathlib.Omega.{arith}
-use lib.Dec.{eqb, leb, ltb}
+use borrow.Author.Tests.{leb-false}
+use lib.Dec.{leb, ltb}
 use lib.ListN.{length}
-use Rattle.rules.specs.Base.{if_then_else_, option, Bytes, find, without, alter, any, keep, All}
-use Rattle.rules.specs.Std.{fromNanos, saturatingAdd}
+use Rattle.rules.specs.Base.{if_then_else_, Bytes, alter, any, All}
+use Rattle.rules.specs.Std.{saturatingAdd}
 use Rattle.rules.specs.Time.{Params}
-use Rattle.rules.specs.Data.{Pair, Dir, Holder, APeer, Proven, PathRec, LinkRec, Answered, Kind, Leg, Held, Memory, Table, Hello, Step, Why, Transition, Inbound, Outbound}
-use Rattle.rules.specs.Links.{numbered, pathAt, opened, heldBy, hold, setPath, withPath, path, retired, withoutPath, released}
+use Rattle.rules.specs.Data.{Pair, Dir, APeer, Proven, PathRec, LinkRec, Answered, Kind, Leg, Held, Memory, Table, Hello, Step, Why, Transition, Inbound, Outbound}
+use Rattle.rules.specs.Links.{numbered, pathAt, opened, heldBy, hold, setPath, withPath, path, withoutPath, released}
 use Rattle.rules.specs.Legs.{onLink, answered, sentKind, unsentKind, dialLeg, answerLeg, resent, markSent, markUnsent}
-use Rattle.rules.specs.Gates.{memory, store}
-use Rattle.rules.specs.Settle.{withLinks, withLegs, withHeld, withGates, joined, legAt, linkAt, heldAt, named, earlierHeld, installs, dial, ends, parted, removed, answer, stamp, promote, dialed, movedTo, moveto, withEpoch, restarted, heardFrom, heard, retireds, closeLegs, crowded}
-use Rattle.rules.specs.Bounds.{Word, Exactly, AtMost, IfAny, PairFits, HolderFits, LinkFits, AnsweredFits, KindFits, LegFits, HeldFits, MemoryFits, Widths}
-use Rattle.rules.proofs.Lists.{if-by, option-by, all-append, all-map}
-use Rattle.rules.proofs.Order.{contra, leb-gt, all-find, all-without, all-kept, all-alter, all-alter-found, all-insert, all-retireds, length-keep, length-alter, length-snoc}
+use Rattle.rules.specs.Settle.{withLinks, withLegs, withHeld, withGates, joined, legAt, linkAt, heldAt, named, earlierHeld, installs, dial, ends, parted, removed, answer, stamp, promote, dialed, movedTo, moveto, withEpoch, restarted, heardFrom, heard, closeLegs, crowded}
+use Rattle.rules.specs.Bounds.{Word, Exactly, AtMost, IfAny, PairFits, LinkFits, AnsweredFits, KindFits, LegFits, HeldFits, MemoryFits, Widths}
+use Rattle.rules.proofs.Lists.{if-by, option-by, all-append}
+use Rattle.rules.proofs.Order.{contra, all-find, all-without, all-kept, all-alter, all-alter-found, all-insert, all-retireds, length-keep, length-alter, length-snoc}
 use Rattle.rules.proofs.CallFits.{HelloFits}
-use Rattle.rules.proofs.Gating.{deadline-word, counter-word, sizes-memory, store-fits, stamped-sizes, clear-sizes, promoted-sizes, ended-sizes}
+use Rattle.rules.proofs.Time.{deadline-word}
+use Rattle.rules.proofs.Gating.{counter-word, sizes-memory, store-fits, stamped-sizes, clear-sizes, promoted-sizes, ended-sizes}
 
 -- ---- links
 
@@ -41,7 +42,7 @@ setPath-four p v s c k = go (any (pathAt p) s) c
 
     go : (b : Bool) → not b && leb 4 (length s) ≡ false → length (if b then alter (pathAt p) (λ w. record { pair = w .pair; state = v }) s else s ++ (w ∷ [])) ≤ 4
     go true e = omega (arith, length-alter (pathAt p) (λ w. record { pair = w .pair; state = v }) s)
-    go false e = omega (arith, length-snoc s w, leb-gt 4 (length s) e)
+    go false e = omega (arith, length-snoc s w, leb-false 4 (length s) e)
 
 setPath-fits : (p : Pair) (v : Proven) (s : List PathRec) → PairFits p → All (λ w. PairFits (w .pair)) s → All (λ w. PairFits (w .pair)) (setPath p v s)
 unfolding setPath
