@@ -16,7 +16,7 @@ use Rattle.rules.specs.Gates.{memoryOf, earlierMemory, remembers, memory
 use Rattle.rules.specs.Bounds.{Word, Exactly, IfAny, ParamsFit, ReplayFits, SilenceFits, MemoryFits}
 use Rattle.rules.proofs.Lists.{if-by, option-by, eqb-sound, all-append}
 use Rattle.rules.proofs.Time.{deadline-word}
-use Rattle.rules.proofs.Order.{all-find, all-without, all-kept, all-insert, length-keep, length-snoc}
+use Rattle.rules.proofs.Order.{all-find, all-without, all-kept, all-insert, length-keep, length-snoc, store-by}
 
 -- a count stays a u32
 pub counter-word : (n : ℕ) → saturatingAdd n 1 < 2 ^ 32
@@ -39,12 +39,11 @@ module _ (c : Params) where
 
   -- no blank memory is stored
   pub store-fits : (m : Memory) (g : List Memory) → Sizes c m → All (MemoryFits c) g → All (MemoryFits c) (store m g)
-  unfolding store
   store-fits m g x k =
       let rest = all-without (MemoryFits c) (memoryOf (m .peer)) g k in
-      if-by (All (MemoryFits c)) (remembers m)
+      store-by (All (MemoryFits c)) m g
       (λ e. all-insert earlierMemory (MemoryFits c) m (without (memoryOf (m .peer)) g) (record { peer = x .peer; stamp = x .stamp; limit = x .limit; replays = x .replays; silence = x .silence; remembers = e }) rest)
-      (λ e. rest)
+      rest
 
   pub stamped-sizes : (now : ℕ) (m : Memory) → Word now → Sizes c m → Sizes c (stamped now m)
   stamped-sizes now m w x = record { peer = x .peer; stamp = w; limit = x .limit; replays = x .replays; silence = x .silence }

@@ -207,11 +207,15 @@ module _ {A : Type 0} (key : A → Bytes) where
 
 -- ---- the table
 
-store-ordered : (m : Memory) (g : List Memory) → Ascending earlierMemory g → Ascending earlierMemory (store m g)
+-- a memory that remembers something is stored, another is dropped
+pub store-by : (P : List Memory → Type 0) (m : Memory) (g : List Memory) → (remembers m ≡ true → P (insert earlierMemory m (without (memoryOf (m .peer)) g))) → P (without (memoryOf (m .peer)) g) → P (store m g)
 unfolding store
+store-by P m g f x = if-by P (remembers m) f (λ e. x)
+
+store-ordered : (m : Memory) (g : List Memory) → Ascending earlierMemory g → Ascending earlierMemory (store m g)
 store-ordered m g h =
     let rest = ascending-without earlierMemory (memoryOf (m .peer)) g h in
-    if-by (Ascending earlierMemory) (remembers m) (λ e. key-insert (λ k. k .peer) m (without (memoryOf (m .peer)) g) (key-gone (λ k. k .peer) (m .peer) g h) rest) (λ e. rest)
+    store-by (Ascending earlierMemory) m g (λ e. key-insert (λ k. k .peer) m (without (memoryOf (m .peer)) g) (key-gone (λ k. k .peer) (m .peer) g h) rest) rest
 
 retireds-ordered : (ns : List ℕ) (s : List LinkRec) → Ascending earlierLink s → Ascending earlierLink (retireds ns s)
 unfolding retireds

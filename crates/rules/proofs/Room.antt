@@ -13,14 +13,14 @@ use Rattle.rules.specs.Std.{before, Ascending}
 use Rattle.rules.specs.Data.{Pair, APeer, Proven, LinkRec, Answered, Leg, Held, Memory, Table, Step, Hello, Source, Why, Transition, Inbound}
 use Rattle.rules.specs.Links.{numbered, opened, heldBy, hold, withPath, path, retired, withoutPath, released}
 use Rattle.rules.specs.Legs.{onLink, answerLeg}
-use Rattle.rules.specs.Gates.{remembers, memoryOf, earlierMemory, memory, store, stamped, promoted, clear, ended}
+use Rattle.rules.specs.Gates.{memoryOf, earlierMemory, memory, store, stamped, promoted, clear, ended}
 use Rattle.rules.specs.Settle.{withLinks, withLegs, withHeld, withGates, joined, legAt, heldAt, named, earlierHeld, peerOf, legPeers, distinct, namedPeers, places, installs, ends, parted, removed, displaces, answer, stamp, promote, dialed, movedTo, moveto, withEpoch, restarted, heardFrom, heard, retireds, closeLegs}
 use Rattle.rules.specs.Bounds.{IfAny, Ordered, Limits}
 use Rattle.rules.proofs.Lists.{if-by, option-by, eqb-same, find-test, tally-found, all-append, all-map}
 use Rattle.rules.proofs.Good.{Good, records-hold, records-retired, leg-record, held-record}
 use Rattle.rules.proofs.Calls.{good-stamp}
 use Rattle.rules.proofs.Peers.{same-sound, or-true-right, Within, within-length}
-use Rattle.rules.proofs.Order.{contra, all-find, all-without, all-alter, all-insert, all-mapped, length-without, length-less, length-alter, length-snoc, length-insert, before-apart}
+use Rattle.rules.proofs.Order.{contra, all-find, all-without, all-alter, all-insert, all-mapped, length-without, length-less, length-alter, length-snoc, length-insert, before-apart, store-by}
 
 -- ---- who has no place
 
@@ -109,10 +109,9 @@ module _ (q : Bytes) where
   Elsewhere s = All (λ m. Other q (m .peer)) s
 
   absent-store : (m : Memory) (s : List Memory) → Other q (m .peer) → Elsewhere s → Elsewhere (store m s)
-  unfolding store
   absent-store m s d e =
       let rest = all-without (λ m. Other q (m .peer)) (memoryOf (m .peer)) s e in
-      if-by Elsewhere (remembers m) (λ x. all-insert earlierMemory (λ m. Other q (m .peer)) m (without (memoryOf (m .peer)) s) d rest) (λ x. rest)
+      store-by Elsewhere m s (λ x. all-insert earlierMemory (λ m. Other q (m .peer)) m (without (memoryOf (m .peer)) s) d rest) rest
 
   absent-memory : (p : Bytes) (s : List Memory) → Other q p → Elsewhere s → Other q ((memory p s) .peer)
   unfolding memory
