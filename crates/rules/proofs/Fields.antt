@@ -3,7 +3,7 @@ use mathlib.Core.Path.{_≡_, refl, sym, ap, subst, _∙_}
 use mathlib.Core.Bool.{Bool, true, false}
 use mathlib.Core.Option.{Option, none, some}
 use mathlib.Core.List.{List, [], _∷_, _++_, append-assoc, append-nil}
-use Prim.Native.Nat.{ℕ, zero, suc, _+_, _*_, _/_, _%_, _^_, _≤_, _<_}
+use Prim.Native.Nat.{ℕ, zero, suc, _+_, _*_, _/_, _%_, _^_, _<_}
 use native.Mathlib.Nat.{pow-suc, div-lt-iff-lt-mul}
 use native.Mathlib.Omega.{arith}
 use borrow.Author.Tests.{leb-true, le-leb}
@@ -11,9 +11,9 @@ use lib.Arith.{digits-lt}
 use lib.Dec.{leb, lit<}
 use lib.Seq.{take-at, drop-at, length-take-le}
 use lib.ListN.{length, take, drop, getElem?, length-append, take-append-drop}
-use Rattle.rules.specs.Base.{if_then_else_, option, Bytes, All}
-use Rattle.rules.specs.Data.{Pair}
-use Rattle.rules.specs.Field.{Reader, give, fail, bind, more, digits, bytes, number, upTo, code, pair, message, pairBytes, messageBytes}
+use Rattle.rules.specs.Base.{if_then_else_, option, one, Bytes, All}
+use Rattle.rules.specs.Data.{Live, Acked, Probing, Why, Ended, Orphaned, Disconnect, Dead, Admin, Closed, OwnRestart}
+use Rattle.rules.specs.Field.{Reader, give, fail, bind, more, digits, bytes, number, upTo, code, flags, flag, whys, states, whyCode, stateCode, pair, message, pairBytes, messageBytes}
 use Rattle.rules.specs.Bounds.{IsByte, Exactly, AtMost, PairFits}
 
 -- ---- a reader for the values that P holds of, spelt by w
@@ -302,6 +302,40 @@ module _ {A : Type 0} (meanings : List A) where
   code-reads codeOf c = both-ways
       (yields-so code-yields λ a u t. (tt, t .spelt ∙ rw (c .only (t .place) a (t .there))))
       (λ a h. code-speaks (codeOf a) a (c .small a) (c .there a))
+
+-- ---- code tables: each value has its place, and no other
+
+pub flag-codes : Codes flags one
+flag-codes = record {
+  there = λ b. elim b [ true ↦ refl | false ↦ refl ];
+  only = each-at (refl & refl & no-more);
+  small = λ b. elim b [ true ↦ lit< tt | false ↦ lit< tt ];
+}
+
+pub state-codes : Codes states stateCode
+state-codes = record {
+  there = λ v. elim v [ Live ↦ refl | Acked ↦ refl | Probing ↦ refl ];
+  only = each-at (refl & refl & refl & no-more);
+  small = λ v. elim v [ Live ↦ lit< tt | Acked ↦ lit< tt | Probing ↦ lit< tt ];
+}
+
+pub why-codes : Codes whys whyCode
+why-codes = record { there = there; only = each-at (refl & refl & refl & refl & refl & refl & refl & refl & refl & no-more); small = small }
+  where
+    there : (w : Why) → getElem? whys (whyCode w) ≡ some w
+    there w = elim w [ Why.Restart ↦ refl | Why.Replacement ↦ refl | OwnRestart ↦ refl | Ended ↦ refl | Orphaned ↦ refl | Disconnect ↦ refl | Dead ↦ refl | Admin ↦ refl | Closed ↦ refl ]
+
+    small : (w : Why) → whyCode w < 256
+    small w = elim w [ Why.Restart ↦ lit< tt | Why.Replacement ↦ lit< tt | OwnRestart ↦ lit< tt | Ended ↦ lit< tt | Orphaned ↦ lit< tt | Disconnect ↦ lit< tt | Dead ↦ lit< tt | Admin ↦ lit< tt | Closed ↦ lit< tt ]
+
+pub flag-reads : Reads flag (λ b. Unit {0}) (λ b. one b ∷ [])
+flag-reads = code-reads flags one flag-codes
+
+pub state-reads : Reads (code states) (λ v. Unit {0}) (λ v. stateCode v ∷ [])
+state-reads = code-reads states stateCode state-codes
+
+pub why-reads : Reads (code whys) (λ w. Unit {0}) (λ w. whyCode w ∷ [])
+why-reads = code-reads whys whyCode why-codes
 
 -- ---- pairs and messages
 

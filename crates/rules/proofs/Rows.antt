@@ -1,15 +1,15 @@
 -- The starred lines of document 01, its worked tape, the refusals and the errors a porter makes, computed from the definitions with default settings.
 use mathlib.Core.Path.{_≡_, refl}
-use mathlib.Core.Bool.{Bool, true, false}
+use mathlib.Core.Bool.{true, false}
 use mathlib.Core.Option.{Option, none, some}
 use mathlib.Core.List.{List, [], _∷_, _++_}
 use Prim.Native.Nat.{ℕ, zero, suc, _+_, _-_}
 use lib.ListN.{replicate}
 use Rattle.rules.specs.Base.{option, Bytes}
-use Rattle.rules.specs.Data.{Pair, Proven, Hello, Table, Call, Source, Why, Denial, Gate, Refusal, Unheard, Dampened, Replayed, Silent, Output, Step, Opened, Resend, Install, Reset, Retire, Free, Reject}
+use Rattle.rules.specs.Data.{Pair, Proven, Hello, Table, Call, Source, Why, Gate, Refusal, Unheard, Dampened, Replayed, Silent, Output, Step, Opened, Resend, Retire, Free, Reject}
 use Rattle.rules.specs.Field.{more, digits, bind, bytes, number, upTo, code, pair, message, pairBytes, messageBytes, frame}
 use Rattle.rules.specs.Record.{Timed, hello, dialFields, linkFields, arrivedFields, msg1Fields, replacementFields, msg2Fields, restartedFields, heardFields, removeFields, pathFields, releaseFields, kinds, timed, settings, form, beginFields, begin, framed, readCall, readNew}
-use Rattle.rules.specs.Std.{asNanos, fromNanos, durationMax, lastReading, saturatingMul, shorter, shortest, isZero, half, checkedAdd, saturatingSince, checkedShl, insert}
+use Rattle.rules.specs.Std.{fromNanos, durationMax, lastReading, saturatingMul, shorter, shortest, isZero, half, checkedAdd, saturatingSince, checkedShl, insert}
 use Rattle.rules.specs.Time.{seconds, default, outOfRange, backoff, reach, deadline, younger}
 use Rattle.rules.specs.Links.{uses, inUse, indexed, opened, hold, setPath, path, once, addresses, retiring, released, releasing}
 use Rattle.rules.specs.Legs.{dialLeg, answerLeg, storedMsg2, answering, resent, overdue, resends, wake, nextWake}
