@@ -6,7 +6,7 @@ use mathlib.Core.List.{List, [], _∷_, _++_}
 use Prim.Native.Nat.{ℕ, zero, suc, _+_, _-_}
 use lib.ListN.{replicate}
 use Rattle.rules.specs.Base.{option, Bytes}
-use Rattle.rules.specs.Data.{Pair, Proven, Hello, Table, Call, Source, Why, Gate, Refusal, Unheard, Dampened, Replayed, Silent, Output, Step, Opened, Resend, Retire, Free, Reject}
+use Rattle.rules.specs.Data.{Pair, Proven, Live, Acked, Probing, Hello, Table, Call, Source, Why, Gate, Refusal, Unheard, Dampened, Replayed, Silent, Output, Step, Opened, Resend, Retire, Free, Reject}
 use Rattle.rules.specs.Field.{more, digits, bind, bytes, number, upTo, code, pair, message, pairBytes, messageBytes, frame}
 use Rattle.rules.specs.Record.{Timed, hello, dialFields, linkFields, arrivedFields, msg1Fields, replacementFields, msg2Fields, restartedFields, heardFields, removeFields, pathFields, releaseFields, kinds, timed, settings, form, beginFields, begin, framed, readCall, readNew}
 use Rattle.rules.specs.Std.{fromNanos, durationMax, lastReading, saturatingMul, shorter, shortest, isZero, half, checkedAdd, saturatingSince, checkedShl, insert}
@@ -54,10 +54,10 @@ pub says : List Timed → Timed → List Output
 unfolding after from
 says s x = (step (x .now) (x .call) ((after s (from 1)) .table)) .step .outs
 
--- the numbers of the calls of the second list, after those of the first
-pub numbers : List Timed → List Timed → ℕ → List ℕ
+-- the numbers of the calls of the second list, after those of the first; links from this number on
+pub numbers : ℕ → List Timed → List Timed → List ℕ
 unfolding after from
-numbers s u first = go u ((after s (from first)) .table)
+numbers first s u = go u ((after s (from first)) .table)
   where
     go : List Timed → Table → List ℕ
     go [] t = []
@@ -73,12 +73,12 @@ writes-of s = run s
 abbrev pub dials : ℕ → Bytes → ℕ → Timed
 dials now p l = on now (Call.Dial p A (0x55 ∷ []) l)
 
--- a msg1 from A with this epoch and digest, which is its lease too
-abbrev pub hail : ℕ → ℕ → Hello
-hail e d = record { peer = them; from = A; bytes = 1 ∷ []; ephemeral = replicate 32 d; epoch = e; msg2 = 2 ∷ []; lease = d }
+-- a msg1 of a peer from a pair, with this epoch and digest, whose byte is the lease too
+abbrev pub hello1 : Bytes → Pair → ℕ → ℕ → Hello
+hello1 p from e d = record { peer = p; from = from; bytes = 1 ∷ []; ephemeral = replicate 32 d; epoch = e; msg2 = 2 ∷ []; lease = d }
 
 abbrev pub msg1s : ℕ → ℕ → ℕ → Timed
-msg1s now e d = on now (Call.Msg1 (hail e d) true)
+msg1s now e d = on now (Call.Msg1 (hello1 them A e d) true)
 
 -- the peer is held on link n, unheard
 abbrev pub holds : ℕ → ℕ → ℕ → ℕ → List Timed
@@ -97,6 +97,16 @@ passed n = Output.Remove them Why.Restart ∷ Retire n [] ∷ Output.Answer (n +
 -- a heard holder is displaced at 15 s, which sets the stamp; the new one is unheard
 abbrev pub stamped15 : List Timed
 stamped15 = holds 0 5 1 1 ++ (on 0 (Call.Heard them A) ∷ []) ++ holds (seconds 15) 6 2 2
+
+-- the peer is held by a dial, and its msg1 from B was answered on link 2
+abbrev pub marked : List Timed
+marked = dials 0 them 9 ∷ on 0 (Call.Msg1 (hello1 them B 5 1) true) ∷ on 0 (Call.Msg2 1 5 A) ∷ on 0 (Call.Sent 2) ∷ []
+
+abbrev pub heardThenRemoved : ℕ → List Timed
+heardThenRemoved now = on now (Call.Heard them A) ∷ on now (Call.Remove them Why.Admin) ∷ []
+
+abbrev pub polls : ℕ → Timed
+polls s = on (seconds s) Call.Poll
 
 abbrev pub wakes : ℕ → Output
 wakes s = Output.Wake (some (seconds s))
@@ -142,7 +152,7 @@ freeRecord = 0x00 ∷ 0x06 ∷ 0x01 ∷ 0x0b ∷ 0x00 ∷ 0x00 ∷ 0x00 ∷ 0x09
 abbrev pub retireRecord : Bytes
 retireRecord = (0x00 ∷ 0x11 ∷ 0x01 ∷ 0x08 ∷ []) ++ replicate 7 0x00 ++ (0x01 ∷ 0x01 ∷ 0x00 ∷ 0x00 ∷ 0x00 ∷ 0x07 ∷ 0x01 ∷ 0x41 ∷ [])
 
--- ---- crowds
+-- ---- crowds, for the refusals
 
 abbrev pub crowdPeer : ℕ → Bytes
 crowdPeer n = replicate 15 0x20 ++ (n ∷ [])
@@ -151,7 +161,10 @@ abbrev pub crowdDial : ℕ → Timed
 crowdDial n = dials 0 (crowdPeer n) n
 
 abbrev pub crowdHello : ℕ → Hello
-crowdHello n = record { peer = crowdPeer n; from = record { transport = n; addr = [] }; bytes = 1 ∷ []; ephemeral = replicate 32 n; epoch = 5; msg2 = 2 ∷ []; lease = n }
+crowdHello n = hello1 (crowdPeer n) (record { transport = n; addr = [] }) 5 n
+
+abbrev pub crowdMsg1 : ℕ → Timed
+crowdMsg1 n = on 0 (Call.Msg1 (crowdHello n) true)
 
 -- dials of the peers n down to 1
 abbrev pub crowd : ℕ → List Timed
@@ -161,17 +174,10 @@ crowd (suc n) = crowdDial (suc n) ∷ crowd n
 -- a session for each of the peers n down to 1 that ends unheard, on links k onwards: it leaves a silence and no link
 abbrev pub ghosts : ℕ → ℕ → List Timed
 ghosts zero k = []
-ghosts (suc n) k = on 0 (Call.Msg1 (crowdHello (suc n)) true) ∷ on 0 (Call.Sent k) ∷ on 0 (Call.Remove (crowdPeer (suc n)) Why.Ended) ∷ ghosts n (suc k)
+ghosts (suc n) k = crowdMsg1 (suc n) ∷ on 0 (Call.Sent k) ∷ on 0 (Call.Remove (crowdPeer (suc n)) Why.Ended) ∷ ghosts n (suc k)
 
 abbrev pub pathTo : ℕ → Proven → Timed
 pathTo n v = on 0 (Call.Path 1 (record { transport = n; addr = [] }) v)
-
--- the peer is held by a dial, and its msg1 from B was answered on link 2
-abbrev pub marked : List Timed
-marked = dials 0 them 9 ∷ on 0 (Call.Msg1 fromB true) ∷ on 0 (Call.Msg2 1 5 A) ∷ on 0 (Call.Sent 2) ∷ []
-  where
-    fromB : Hello
-    fromB = record { peer = them; from = B; bytes = 1 ∷ []; ephemeral = replicate 32 1; epoch = 5; msg2 = 2 ∷ []; lease = 1 }
 
 pub record Rows : Type 0 where
   -- Backoff of 1 ns, no cap in reach: exponent 31 gives 2,147,483,648; 32 gives 4,294,967,295.
@@ -181,7 +187,8 @@ pub record Rows : Type 0 where
   pub deadline-5 : deadline (lastReading - 5) (fromNanos 10) ≡ lastReading
   pub deadline-4 : deadline (lastReading - 4) (fromNanos 10) ≡ lastReading - 2
   -- Dial at 0, each resend sent on time: wakes 1, 3, 7, 15, 30 s.
-  pub resends-on-time : outs (dials 0 them 9 ∷ on 0 Call.Wake ∷ sends 1 ++ sends 3 ++ sends 7 ++ sends 15) ≡ Opened 1 ∷ wakes 1 ∷ wakes 3 ∷ wakes 7 ∷ wakes 15 ∷ wakes 30 ∷ []
+  pub resends-on-time : outs (dials 0 them 9 ∷ on 0 Call.Wake ∷ sends 1 ++ sends 3 ++ sends 7 ++ sends 15)
+      ≡ Opened 1 ∷ wakes 1 ∷ wakes 3 ∷ wakes 7 ∷ wakes 15 ∷ wakes 30 ∷ []
   -- Restart, new digest, no stamp, unheard holder: refused at 999,999,999 ns; passes at 1 s; stamp 2 s old, Dampened.
   pub restart-young : says (holds 0 5 1 1) (msg1s 999_999_999 6 2) ≡ rejected Source.Restart Unheard 2
   pub restart-old : says (holds 0 5 1 1) (msg1s (seconds 1) 6 2) ≡ passed 1
@@ -203,22 +210,25 @@ pub record Rows : Type 0 where
   pub tape-empty : writes-of [] ≡ []
   pub tape-refused : writes-of (dialRecord ++ dialRecord) ≡ done 3
   -- 4: dial, msg1, replacement when the next link number is 2^64 - 1
-  pub numbers-4 : numbers [] (crowdDial 1 ∷ crowdDial 2 ∷ on 0 (Call.Msg1 (crowdHello 1) true) ∷ on 0 (Call.Replacement (crowdHello 1)) ∷ on 0 (Call.Abandon (lastReading - 1)) ∷ []) (lastReading - 1) ≡ 0 ∷ 4 ∷ 4 ∷ 4 ∷ 0 ∷ []
+  pub numbers-4 : numbers (lastReading - 1) [] (crowdDial 1 ∷ crowdDial 2 ∷ crowdMsg1 1 ∷ on 0 (Call.Replacement (crowdHello 1)) ∷ on 0 (Call.Abandon (lastReading - 1)) ∷ [])
+      ≡ 0 ∷ 4 ∷ 4 ∷ 4 ∷ 0 ∷ []
   -- 5: 32 links are live
-  pub numbers-5 : numbers (crowd 31) (crowdDial 32 ∷ crowdDial 33 ∷ on 0 (Call.Replacement (crowdHello 33)) ∷ on 0 (Call.Abandon 3) ∷ crowdDial 33 ∷ []) 1 ≡ 0 ∷ 5 ∷ 5 ∷ 0 ∷ 0 ∷ []
+  pub numbers-5 : numbers 1 (crowd 31) (crowdDial 32 ∷ crowdDial 33 ∷ on 0 (Call.Replacement (crowdHello 33)) ∷ on 0 (Call.Abandon 3) ∷ crowdDial 33 ∷ [])
+      ≡ 0 ∷ 5 ∷ 5 ∷ 0 ∷ 0 ∷ []
   -- 6: the peer has no place and 32 places are used
-  pub numbers-6 : numbers (ghosts 32 1) (crowdDial 33 ∷ on 0 (Call.Msg1 (crowdHello 33) true) ∷ crowdDial 32 ∷ []) 1 ≡ 6 ∷ 6 ∷ 0 ∷ []
+  pub numbers-6 : numbers 1 (ghosts 32 1) (crowdDial 33 ∷ crowdMsg1 33 ∷ crowdDial 32 ∷ []) ≡ 6 ∷ 6 ∷ 0 ∷ []
   -- 7: live link, new pair, four paths already
-  pub numbers-7 : numbers (crowdDial 1 ∷ pathTo 1 Proven.Live ∷ pathTo 2 Proven.Acked ∷ pathTo 3 Proven.Probing ∷ pathTo 4 Proven.Live ∷ []) (pathTo 5 Proven.Live ∷ pathTo 3 Proven.Live ∷ []) 1 ≡ 7 ∷ 0 ∷ []
+  pub numbers-7 : numbers 1 (crowdDial 1 ∷ pathTo 1 Live ∷ pathTo 2 Acked ∷ pathTo 3 Probing ∷ pathTo 4 Live ∷ []) (pathTo 5 Live ∷ pathTo 3 Live ∷ []) ≡ 7 ∷ 0 ∷ []
   -- Poll repeats a resend until sent moves it.
-  pub poll-repeats : outs (dials 0 them 9 ∷ on (seconds 1) Call.Poll ∷ on (seconds 1) Call.Poll ∷ on (seconds 1) Call.Wake ∷ on (seconds 1) (Call.Sent 1) ∷ on (seconds 1) Call.Poll ∷ []) ≡ Opened 1 ∷ Resend 1 (0x55 ∷ []) ∷ Resend 1 (0x55 ∷ []) ∷ wakes 1 ∷ []
+  pub poll-repeats : outs (dials 0 them 9 ∷ polls 1 ∷ polls 1 ∷ on (seconds 1) Call.Wake ∷ on (seconds 1) (Call.Sent 1) ∷ polls 1 ∷ [])
+      ≡ Opened 1 ∷ Resend 1 (0x55 ∷ []) ∷ Resend 1 (0x55 ∷ []) ∷ wakes 1 ∷ []
   -- An answer leg not yet sent yields its msg2 for any bytes, a sent one only for equal msg1 bytes.
   pub answer-unsent : says (msg1s 0 5 1 ∷ []) (on 0 (Call.Arrived A (3 ∷ []))) ≡ Output.Answer 1 true (2 ∷ []) ∷ []
   pub answer-sent : says marked (on 0 (Call.Arrived B (3 ∷ []))) ≡ []
   pub answer-equal : says marked (on 0 (Call.Arrived B (1 ∷ []))) ≡ Output.Answer 2 true (2 ∷ []) ∷ []
   -- heard clears replays and silence, never the stamp.
-  pub heard-keeps-stamp : says (stamped15 ++ (on (seconds 15) (Call.Heard them A) ∷ on (seconds 15) (Call.Remove them Why.Admin) ∷ []) ++ holds (seconds 15) 6 3 3) (msg1s (seconds 17) 7 4) ≡ rejected Source.Restart Dampened 4
-  pub heard-clears-replays : says (holds 0 5 1 1 ++ (on 0 (Call.Heard them A) ∷ on 0 (Call.Remove them Why.Admin) ∷ []) ++ holds 0 5 2 2) (msg1s (seconds 1) 6 1) ≡ passed 2
+  pub heard-keeps-stamp : says (stamped15 ++ heardThenRemoved (seconds 15) ++ holds (seconds 15) 6 3 3) (msg1s (seconds 17) 7 4) ≡ rejected Source.Restart Dampened 4
+  pub heard-clears-replays : says (holds 0 5 1 1 ++ heardThenRemoved 0 ++ holds 0 5 2 2) (msg1s (seconds 1) 6 1) ≡ passed 2
 
 pub rows : Rows
 unfolding outs says silences numbers writes-of
