@@ -14,7 +14,7 @@ use Rattle.rules.specs.Data.{Pair, Hello, Call}
 use Rattle.rules.specs.Field.{Reader, give, fail, bind, number, digits, frame}
 use Rattle.rules.specs.Record.{hello, helloBytes, dialFields, linkFields, arrivedFields, msg1Fields, replacementFields, msg2Fields, restartedFields, heardFields, removeFields, pathFields, releaseFields, kinds, callKind, callBytes, Timed, timed, Begin, finished, framed, readCall, settings, settingsBytes, form, formBytes, beginFields, begin, readNew}
 use Rattle.rules.specs.Bounds.{IsByte, Exactly, AtMost, IfAny, Word, PairFits, ParamsFit}
-use Rattle.rules.proofs.Fields.{Reads, Used, Yields, Each, no-more, _&_, each-at, bind-yields, then-yields, then-speaks, last-yields, give-yields, give-speaks, fail-yields, yields-so, so-speaks, both-ways, bytes-reads, number-reads, digit, length-digits, code-yields, flag-reads, state-reads, why-reads, pair-reads, message-reads}
+use Rattle.rules.proofs.Fields.{not-some, Reads, Used, Yields, Each, no-more, _&_, each-at, bind-yields, then-yields, then-speaks, last-yields, give-yields, give-speaks, fail-yields, yields-so, so-speaks, both-ways, bytes-reads, number-reads, digit, length-digits, code-yields, flag-reads, state-reads, why-reads, pair-reads, message-reads}
 
 -- ---- what values keep to
 
@@ -182,9 +182,9 @@ pub record Whole {A : Type 0} (R : ℕ → A → Bytes → Type 0) (x : A) (s : 
   pub spelt : s ≡ frame kind body
 
 all-read : {A : Type 0} (o : Option (A × Bytes)) (x : A) → finished o ≡ some x → o ≡ some (x, [])
-all-read none x e = absurd (let z : _≡_ {A = ℕ} 0 1 = cc in omega arith)
+all-read none x e = not-some e
 all-read (some (a, [])) x e = let f : a ≡ x = cc in rw f
-all-read (some (a, b ∷ s)) x e = absurd (let z : _≡_ {A = ℕ} 0 1 = cc in omega arith)
+all-read (some (a, b ∷ s)) x e = not-some e
 
 module _ {A : Type 0} (fields : ℕ → Reader A) (R : ℕ → A → Bytes → Type 0) (g : (k : ℕ) → Yields (fields k) (R k)) where
   checked : (m n v k : ℕ) → k < 256 → (b c : Bool) → eqb (n + 2) m ≡ b → eqb v 1 ≡ c

@@ -8,15 +8,15 @@ use lib.ListN.{replicate}
 use Rattle.rules.specs.Base.{option, Bytes}
 use Rattle.rules.specs.Data.{Pair, Proven, Live, Acked, Probing, Hello, Table, Call, Source, Why, Gate, Refusal, Unheard, Dampened, Replayed, Silent, Output, Step, Opened, Resend, Retire, Free, Reject}
 use Rattle.rules.specs.Field.{more, digits, bind, bytes, number, upTo, code, pair, message, pairBytes, messageBytes, frame}
-use Rattle.rules.specs.Record.{Timed, hello, dialFields, linkFields, arrivedFields, msg1Fields, replacementFields, msg2Fields, restartedFields, heardFields, removeFields, pathFields, releaseFields, kinds, timed, settings, form, beginFields, begin, framed, readCall, readNew}
+use Rattle.rules.specs.Record.{Timed, hello, dialFields, linkFields, arrivedFields, msg1Fields, replacementFields, msg2Fields, restartedFields, heardFields, removeFields, pathFields, releaseFields, kinds, timed, settings, form, beginFields, begin, framed, readCall, readNew, settingsBytes, formBytes, spellNew}
 use Rattle.rules.specs.Std.{fromNanos, durationMax, lastReading, saturatingMul, shorter, shortest, isZero, half, checkedAdd, saturatingSince, checkedShl, insert}
-use Rattle.rules.specs.Time.{seconds, default, outOfRange, backoff, reach, deadline, younger}
+use Rattle.rules.specs.Time.{Params, seconds, default, outOfRange, backoff, reach, deadline, younger}
 use Rattle.rules.specs.Links.{uses, inUse, indexed, opened, hold, setPath, path, once, addresses, retiring, released, releasing}
 use Rattle.rules.specs.Legs.{dialLeg, answerLeg, storedMsg2, answering, resent, overdue, resends, wake, nextWake}
 use Rattle.rules.specs.Gates.{memory, store, silencing, replayed, young, dampened, judge, gate, clear, prune, promoted, expired, counting, countedWith, silenced, ended}
 use Rattle.rules.specs.Settle.{still, _▸_, distinct, places, numbering, entering, dial, ends, abandon, storedOn, storedIn, stored, full, arrived, parted, removed, remove, denied, answer, stamp, admitted, admit, attributed, msg1, promote, sent, unsent, dialed, moveto, own, msg2, restarted, heard, abandons, poll, retireds, retirings, closeLegs, removes, close, crowded, addPath, release, step}
 use Rattle.rules.specs.Output.{listBytes, installBytes, outputBytes, outputRecord, outputs, doneRecord}
-use Rattle.rules.specs.Entry.{newTable, new, call}
+use Rattle.rules.specs.Entry.{Made, Refused, newTable, new, call}
 use Rattle.rules.specs.Tape.{extent, records, calls, session, run}
 
 -- ---- what calls do
@@ -65,7 +65,7 @@ numbers first s u = go u ((after s (from first)) .table)
 
 -- the program on a tape
 pub writes-of : Bytes → Bytes
-unfolding after more digits bind bytes number upTo code pair message pairBytes messageBytes frame hello dialFields linkFields arrivedFields msg1Fields replacementFields msg2Fields restartedFields heardFields removeFields pathFields releaseFields kinds timed settings form beginFields begin framed readCall readNew listBytes installBytes outputBytes outputRecord outputs doneRecord newTable new call extent records calls session run
+unfolding after more digits bind bytes number upTo code pair message pairBytes messageBytes frame hello dialFields linkFields arrivedFields msg1Fields replacementFields msg2Fields restartedFields heardFields removeFields pathFields releaseFields kinds timed settings form beginFields begin framed readCall readNew settingsBytes formBytes spellNew listBytes installBytes outputBytes outputRecord outputs doneRecord newTable new call extent records calls session run
 writes-of s = run s
 
 -- ---- the cases
@@ -152,7 +152,25 @@ freeRecord = 0x00 ∷ 0x06 ∷ 0x01 ∷ 0x0b ∷ 0x00 ∷ 0x00 ∷ 0x00 ∷ 0x09
 abbrev pub retireRecord : Bytes
 retireRecord = (0x00 ∷ 0x11 ∷ 0x01 ∷ 0x08 ∷ []) ++ replicate 7 0x00 ++ (0x01 ∷ 0x01 ∷ 0x00 ∷ 0x00 ∷ 0x00 ∷ 0x07 ∷ 0x01 ∷ 0x41 ∷ [])
 
--- ---- crowds, for the refusals
+-- ---- for the refusals
+
+-- the default with these two limits
+pub limits : ℕ → ℕ → Params
+unfolding default
+limits replays counted = record {
+  unheard = default .unheard;
+  interval = default .interval;
+  replays = replays;
+  silent = default .silent;
+  silentbase = default .silentbase;
+  silentcap = default .silentcap;
+  horizon = default .horizon;
+  counted = counted;
+  handshake = default .handshake;
+  resend = default .resend;
+  resends = default .resends;
+  pending = default .pending;
+}
 
 abbrev pub crowdPeer : ℕ → Bytes
 crowdPeer n = replicate 15 0x20 ++ (n ∷ [])
@@ -209,6 +227,14 @@ pub record Rows : Type 0 where
   pub tape-cut : writes-of (newRecord ++ dialRecord ++ (0x00 ∷ 0x12 ∷ 0x01 ∷ [])) ≡ done 0 ++ openedRecord ++ done 0 ++ done 3
   pub tape-empty : writes-of [] ≡ []
   pub tape-refused : writes-of (dialRecord ++ dialRecord) ≡ done 3
+  -- 1: counted 0 or above 8, or replays above 8
+  pub number-1 : new (spellNew 0 (replicate 16 0) 1 (some (limits 8 0))) ≡ Refused 1
+  pub number-1-counted : new (spellNew 0 (replicate 16 0) 1 (some (limits 8 9))) ≡ Refused 1
+  pub number-1-replays : new (spellNew 0 (replicate 16 0) 1 (some (limits 9 8))) ≡ Refused 1
+  pub number-none : new (spellNew 0 (replicate 16 0) 1 (some (limits 8 8))) ≡ Made (from 1)
+  -- 2 comes before 3: an output buffer under 10,240 bytes, for any record
+  pub number-2 : (call [] 10_239 (from 1)) .number ≡ 2
+  pub number-3 : (call [] 10_240 (from 1)) .number ≡ 3
   -- 4: dial, msg1, replacement when the next link number is 2^64 - 1
   pub numbers-4 : numbers (lastReading - 1) [] (crowdDial 1 ∷ crowdDial 2 ∷ crowdMsg1 1 ∷ on 0 (Call.Replacement (crowdHello 1)) ∷ on 0 (Call.Abandon (lastReading - 1)) ∷ [])
       ≡ 0 ∷ 4 ∷ 4 ∷ 4 ∷ 0 ∷ []
@@ -231,7 +257,7 @@ pub record Rows : Type 0 where
   pub heard-clears-replays : says (holds 0 5 1 1 ++ heardThenRemoved 0 ++ holds 0 5 2 2) (msg1s (seconds 1) 6 1) ≡ passed 2
 
 pub rows : Rows
-unfolding outs says silences numbers writes-of
+unfolding outs says silences numbers writes-of limits
 rows = record {
   backoff-31 = refl;
   backoff-32 = refl;
@@ -251,6 +277,12 @@ rows = record {
   tape-cut = refl;
   tape-empty = refl;
   tape-refused = refl;
+  number-1 = refl;
+  number-1-counted = refl;
+  number-1-replays = refl;
+  number-none = refl;
+  number-2 = refl;
+  number-3 = refl;
   numbers-4 = refl;
   numbers-5 = refl;
   numbers-6 = refl;
