@@ -103,21 +103,29 @@ kind-small Call.Wake = lit< tt
 
 call-speaks : (c : Call) → CallFits c → Speaks (option (getElem? kinds (callKind c)) fail λ f. f) (callBytes c) c
 unfolding kinds callBytes dialFields linkFields arrivedFields msg1Fields replacementFields msg2Fields restartedFields heardFields removeFields pathFields releaseFields
-call-speaks (Call.Dial p to m l) h = so-speaks (then-speaks (bytes-reads 16) _ (h .peer) (then-speaks pair-reads _ (h .pair) (then-speaks message-reads _ (h .msg1) (then-speaks (number-reads 4) _ (h .lease) give-speaks)))) (simp (append-assoc, append-nil))
+call-speaks (Call.Dial p to m l) h = so-speaks
+    (then-speaks (bytes-reads 16) _ (h .peer) (then-speaks pair-reads _ (h .pair) (then-speaks message-reads _ (h .msg1) (then-speaks (number-reads 4) _ (h .lease) give-speaks))))
+    (simp (append-assoc, append-nil))
 call-speaks (Call.Abandon n) h = so-speaks (then-speaks (number-reads 8) _ h give-speaks) (simp append-nil)
 call-speaks (Call.Arrived p m) h = so-speaks (then-speaks pair-reads _ (h .0) (then-speaks message-reads _ (h .1) give-speaks)) (simp append-nil)
 call-speaks (Call.Msg1 x f) h = so-speaks (then-speaks hello-reads _ h (then-speaks flag-reads _ tt give-speaks)) (simp append-nil)
 call-speaks (Call.Replacement x) h = so-speaks (then-speaks hello-reads _ h give-speaks) (simp append-nil)
 call-speaks (Call.Sent n) h = so-speaks (then-speaks (number-reads 8) _ h give-speaks) (simp append-nil)
 call-speaks (Call.Unsent n) h = so-speaks (then-speaks (number-reads 8) _ h give-speaks) (simp append-nil)
-call-speaks (Call.Msg2 n e p) h = so-speaks (then-speaks (number-reads 8) _ (h .0) (then-speaks (number-reads 8) _ (h .1) (then-speaks pair-reads _ (h .2) give-speaks))) (simp (append-assoc, append-nil))
+call-speaks (Call.Msg2 n e p) h = so-speaks
+    (then-speaks (number-reads 8) _ (h .0) (then-speaks (number-reads 8) _ (h .1) (then-speaks pair-reads _ (h .2) give-speaks)))
+    (simp (append-assoc, append-nil))
 call-speaks (Call.Restarted p e) h = so-speaks (then-speaks (bytes-reads 16) _ (h .0) (then-speaks (number-reads 8) _ (h .1) give-speaks)) (simp append-nil)
 call-speaks (Call.Heard p f) h = so-speaks (then-speaks (bytes-reads 16) _ (h .0) (then-speaks pair-reads _ (h .1) give-speaks)) (simp append-nil)
 call-speaks (Call.Remove p w) h = so-speaks (then-speaks (bytes-reads 16) _ h (then-speaks why-reads _ tt give-speaks)) (simp append-nil)
 call-speaks Call.Poll h = give-speaks
 call-speaks Call.Close h = give-speaks
-call-speaks (Call.Path n p v) h = so-speaks (then-speaks (number-reads 8) _ (h .0) (then-speaks pair-reads _ (h .1) (then-speaks state-reads _ tt give-speaks))) (simp (append-assoc, append-nil))
-call-speaks (Call.Release n p k) h = so-speaks (then-speaks (number-reads 8) _ (h .0) (then-speaks pair-reads _ (h .1) (then-speaks flag-reads _ tt give-speaks))) (simp (append-assoc, append-nil))
+call-speaks (Call.Path n p v) h = so-speaks
+    (then-speaks (number-reads 8) _ (h .0) (then-speaks pair-reads _ (h .1) (then-speaks state-reads _ tt give-speaks)))
+    (simp (append-assoc, append-nil))
+call-speaks (Call.Release n p k) h = so-speaks
+    (then-speaks (number-reads 8) _ (h .0) (then-speaks pair-reads _ (h .1) (then-speaks flag-reads _ tt give-speaks)))
+    (simp (append-assoc, append-nil))
 call-speaks Call.Wake h = give-speaks
 
 pub spelt-reads : (x : Timed) → TimedFits x → readCall (spellCall x) ≡ some x
