@@ -1,20 +1,20 @@
 -- What the values of an accepted record keep to, and that it is their spelling.
-use mathlib.Core.Path.{_≡_, refl, sym, ap, _∙_}
+use mathlib.Core.Path.{_≡_, refl, _∙_}
 use mathlib.Core.Bool.{Bool, true, false, _&&_, _||_}
 use mathlib.Core.Option.{Option, none, some}
-use mathlib.Core.List.{List, [], _∷_, _++_, append-assoc, append-nil}
-use Prim.Native.Nat.{ℕ, zero, suc, _+_, _^_, _≤_, _<_}
+use mathlib.Core.List.{[], _∷_, _++_, append-assoc, append-nil}
+use Prim.Native.Nat.{ℕ, _+_, _^_, _<_}
 use native.Mathlib.Omega.{arith}
 use borrow.Author.Tests.{eqb-true, eqb-false, ltb-false}
 use lib.Dec.{eqb, ltb, lit<}
 use lib.ListN.{length, getElem?, length-append}
-use Rattle.rules.specs.Base.{if_then_else_, option, one, Bytes, All}
+use Rattle.rules.specs.Base.{if_then_else_, option, Bytes, All}
 use Rattle.rules.specs.Time.{Params, default, outOfRange}
-use Rattle.rules.specs.Data.{Pair, Proven, Live, Acked, Probing, Why, Ended, Orphaned, Disconnect, Dead, Admin, Closed, OwnRestart, Hello, Call}
-use Rattle.rules.specs.Field.{Reader, bind, number, give, fail, code, flag, flags, whys, states, whyCode, stateCode, pairBytes, messageBytes, digits, frame}
+use Rattle.rules.specs.Data.{Pair, Hello, Call}
+use Rattle.rules.specs.Field.{Reader, give, fail, bind, number, digits, frame}
 use Rattle.rules.specs.Record.{hello, helloBytes, dialFields, linkFields, arrivedFields, msg1Fields, replacementFields, msg2Fields, restartedFields, heardFields, removeFields, pathFields, releaseFields, kinds, callKind, callBytes, Timed, timed, Begin, finished, framed, readCall, settings, settingsBytes, form, formBytes, beginFields, begin, readNew}
 use Rattle.rules.specs.Bounds.{IsByte, Exactly, AtMost, IfAny, Word, PairFits, ParamsFit}
-use Rattle.rules.proofs.Fields.{Reads, Used, yields-so, Yields, Speaks, Codes, Each, no-more, _&_, each-at, bind-yields, then-yields, then-speaks, last-yields, last-speaks, give-yields, give-speaks, fail-yields, so-speaks, both-ways, bytes-reads, number-reads, digit, length-digits, code-yields, code-speaks, code-reads, pair-reads, message-reads}
+use Rattle.rules.proofs.Fields.{not-some, Reads, Used, Yields, Each, no-more, _&_, each-at, bind-yields, then-yields, then-speaks, last-yields, give-yields, give-speaks, fail-yields, yields-so, so-speaks, both-ways, bytes-reads, number-reads, digit, length-digits, code-yields, flag-reads, state-reads, why-reads, pair-reads, message-reads}
 
 -- ---- what values keep to
 
@@ -75,40 +75,6 @@ pub record BeginFits (b : Begin) : Type 0 where
   pub me : Exactly 16 (b .me)
   pub first : Word (b .first)
   pub params : SettingsFit (b .params)
-
--- ---- code tables
-
-pub flag-codes : Codes flags one
-flag-codes = record {
-  there = λ b. elim b [ true ↦ refl | false ↦ refl ];
-  only = each-at (refl & refl & no-more);
-  small = λ b. elim b [ true ↦ lit< tt | false ↦ lit< tt ];
-}
-
-pub state-codes : Codes states stateCode
-state-codes = record {
-  there = λ v. elim v [ Live ↦ refl | Acked ↦ refl | Probing ↦ refl ];
-  only = each-at (refl & refl & refl & no-more);
-  small = λ v. elim v [ Live ↦ lit< tt | Acked ↦ lit< tt | Probing ↦ lit< tt ];
-}
-
-pub why-codes : Codes whys whyCode
-why-codes = record { there = there; only = each-at (refl & refl & refl & refl & refl & refl & refl & refl & refl & no-more); small = small }
-  where
-    there : (w : Why) → getElem? whys (whyCode w) ≡ some w
-    there w = elim w [ Why.Restart ↦ refl | Why.Replacement ↦ refl | OwnRestart ↦ refl | Ended ↦ refl | Orphaned ↦ refl | Disconnect ↦ refl | Dead ↦ refl | Admin ↦ refl | Closed ↦ refl ]
-
-    small : (w : Why) → whyCode w < 256
-    small w = elim w [ Why.Restart ↦ lit< tt | Why.Replacement ↦ lit< tt | OwnRestart ↦ lit< tt | Ended ↦ lit< tt | Orphaned ↦ lit< tt | Disconnect ↦ lit< tt | Dead ↦ lit< tt | Admin ↦ lit< tt | Closed ↦ lit< tt ]
-
-pub flag-reads : Reads flag (λ b. Unit {0}) (λ b. one b ∷ [])
-flag-reads = code-reads flags one flag-codes
-
-pub state-reads : Reads (code states) (λ v. Unit {0}) (λ v. stateCode v ∷ [])
-state-reads = code-reads states stateCode state-codes
-
-pub why-reads : Reads (code whys) (λ w. Unit {0}) (λ w. whyCode w ∷ [])
-why-reads = code-reads whys whyCode why-codes
 
 -- ---- each kind of call
 
@@ -216,9 +182,9 @@ pub record Whole {A : Type 0} (R : ℕ → A → Bytes → Type 0) (x : A) (s : 
   pub spelt : s ≡ frame kind body
 
 all-read : {A : Type 0} (o : Option (A × Bytes)) (x : A) → finished o ≡ some x → o ≡ some (x, [])
-all-read none x e = absurd (let z : _≡_ {A = ℕ} 0 1 = cc in omega arith)
+all-read none x e = not-some e
 all-read (some (a, [])) x e = let f : a ≡ x = cc in rw f
-all-read (some (a, b ∷ s)) x e = absurd (let z : _≡_ {A = ℕ} 0 1 = cc in omega arith)
+all-read (some (a, b ∷ s)) x e = not-some e
 
 module _ {A : Type 0} (fields : ℕ → Reader A) (R : ℕ → A → Bytes → Type 0) (g : (k : ℕ) → Yields (fields k) (R k)) where
   checked : (m n v k : ℕ) → k < 256 → (b c : Bool) → eqb (n + 2) m ≡ b → eqb v 1 ≡ c

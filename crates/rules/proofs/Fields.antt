@@ -3,7 +3,7 @@ use mathlib.Core.Path.{_≡_, refl, sym, ap, subst, _∙_}
 use mathlib.Core.Bool.{Bool, true, false}
 use mathlib.Core.Option.{Option, none, some}
 use mathlib.Core.List.{List, [], _∷_, _++_, append-assoc, append-nil}
-use Prim.Native.Nat.{ℕ, zero, suc, _+_, _*_, _/_, _%_, _^_, _≤_, _<_}
+use Prim.Native.Nat.{ℕ, zero, suc, _+_, _*_, _/_, _%_, _^_, _<_}
 use native.Mathlib.Nat.{pow-suc, div-lt-iff-lt-mul}
 use native.Mathlib.Omega.{arith}
 use borrow.Author.Tests.{leb-true, le-leb}
@@ -11,9 +11,9 @@ use lib.Arith.{digits-lt}
 use lib.Dec.{leb, lit<}
 use lib.Seq.{take-at, drop-at, length-take-le}
 use lib.ListN.{length, take, drop, getElem?, length-append, take-append-drop}
-use Rattle.rules.specs.Base.{if_then_else_, option, Bytes, All}
-use Rattle.rules.specs.Data.{Pair}
-use Rattle.rules.specs.Field.{Reader, give, fail, bind, more, digits, bytes, number, upTo, code, pair, message, pairBytes, messageBytes}
+use Rattle.rules.specs.Base.{if_then_else_, option, one, Bytes, All}
+use Rattle.rules.specs.Data.{Live, Acked, Probing, Why, Ended, Orphaned, Disconnect, Dead, Admin, Closed, OwnRestart}
+use Rattle.rules.specs.Field.{Reader, give, fail, bind, more, digits, bytes, number, upTo, code, flags, flag, whys, states, whyCode, stateCode, pair, message, pairBytes, messageBytes}
 use Rattle.rules.specs.Bounds.{IsByte, Exactly, AtMost, PairFits}
 
 -- ---- a reader for the values that P holds of, spelt by w
@@ -44,6 +44,9 @@ pub record Speaks {B : Type 0} (q : Reader B) (u : Bytes) (b : B) : Type 0 where
 
 -- ---- sequences
 
+pub not-some : {A C : Type 0} {a : A} → none ≡ some a → C
+not-some e = absurd (let z : _≡_ {A = ℕ} 0 1 = cc in omega arith)
+
 module _ {B : Type 0} where
   pub give-yields : {c : B} {R : B → Bytes → Type 0} → R c [] → Yields (give c) R
   give-yields {c} {R} m = record { used = λ s b r h e. let z : _≡_ {A = B × Bytes} (c, s) (b, r) = cc in go s b r h z }
@@ -57,7 +60,7 @@ module _ {B : Type 0} where
   yields-so y g = record { used = λ s b r h e. let u = y .used s b r h e in record { front = u .front; split = u .split; means = g b (u .front) (u .means); rest = u .rest } }
 
   pub fail-yields : {R : B → Bytes → Type 0} → Yields fail R
-  fail-yields = record { used = λ s b r h e. absurd (let z : _≡_ {A = ℕ} 0 1 = cc in omega arith) }
+  fail-yields = record { used = λ s b r h e. not-some e }
 
   pub give-speaks : {c : B} → Speaks (give c) [] c
   give-speaks = record { said = λ r. refl }
@@ -78,7 +81,7 @@ module _ {A B : Type 0} (p : Reader A) (k : A → Reader B) where
   bound s x e = go (p s) refl e
     where
       go : (o : Option (A × Bytes)) → p s ≡ o → option o none (λ r. k (r .0) (r .1)) ≡ some x → Bound p k s x
-      go none f h = absurd (let z : _≡_ {A = ℕ} 0 1 = cc in omega arith)
+      go none f h = not-some h
       go (some y) f h = record { value = y .0; left = y .1; first = f; second = h }
 
   pub bind-at : (s : Bytes) (a : A) (r : Bytes) → p s ≡ some (a, r) → bind p k s ≡ k a r
@@ -175,7 +178,7 @@ module _ {A : Type 0} (f : Bytes → A) (n : ℕ) where
   cut s a r h e = go (leb n (length s)) refl e
     where
       go : (b : Bool) → leb n (length s) ≡ b → cutIf b s ≡ some (a, r) → Cut f n s a r
-      go false c e = absurd (let z : _≡_ {A = ℕ} 0 1 = cc in omega arith)
+      go false c e = not-some e
       go true c e =
           let z : _≡_ {A = A × Bytes} (f (take n s), drop n s) (a, r) = cc in
           let k = all-append IsByte (take n s) (drop n s) (rw (take-append-drop n s) h) in
@@ -232,7 +235,7 @@ upTo-reads limit n = record {
 }
   where
     go : (s a r : Bytes) → All IsByte s → (b : Bool) → leb n limit ≡ b → (if b then bytes n s else none) ≡ some (a, r) → Taken (Sized limit n) (λ x. x) s a r
-    go s a r h false c e = absurd (let z : _≡_ {A = ℕ} 0 1 = cc in omega arith)
+    go s a r h false c e = not-some e
     go s a r h true c e =
         let t = (bytes-reads n) .takes s a r h e in
         record {
@@ -256,7 +259,7 @@ pub data Each {A : Type 0} (P : ℕ → A → Type 0) : ℕ → List A → Type 
   _&_ : {i : ℕ} {a : A} {s : List A} → P i a → Each P (suc i) s → Each P i (a ∷ s)
 
 each-from : {A : Type 0} {P : ℕ → A → Type 0} {i : ℕ} {s : List A} (k : ℕ) (a : A) → Each P i s → getElem? s k ≡ some a → P (i + k) a
-each-from k a no-more e = absurd (let z : _≡_ {A = ℕ} 0 1 = cc in omega arith)
+each-from k a no-more e = not-some e
 each-from {P = P} {i = i} zero a (h & t) e =
     let g : i ≡ i + 0 = omega arith in
     rw (← g) (subst (P i) (cc) h)
@@ -302,6 +305,60 @@ module _ {A : Type 0} (meanings : List A) where
   code-reads codeOf c = both-ways
       (yields-so code-yields λ a u t. (tt, t .spelt ∙ rw (c .only (t .place) a (t .there))))
       (λ a h. code-speaks (codeOf a) a (c .small a) (c .there a))
+
+-- ---- code tables: each value has its place, and no other
+
+pub flag-codes : Codes flags one
+flag-codes = record {
+  there = λ b. elim b [ true ↦ refl | false ↦ refl ];
+  only = each-at (refl & refl & no-more);
+  small = λ b. elim b [ true ↦ lit< tt | false ↦ lit< tt ];
+}
+
+pub state-codes : Codes states stateCode
+state-codes = record {
+  there = λ v. elim v [ Live ↦ refl | Acked ↦ refl | Probing ↦ refl ];
+  only = each-at (refl & refl & refl & no-more);
+  small = λ v. elim v [ Live ↦ lit< tt | Acked ↦ lit< tt | Probing ↦ lit< tt ];
+}
+
+pub why-codes : Codes whys whyCode
+why-codes = record { there = there; only = each-at (refl & refl & refl & refl & refl & refl & refl & refl & refl & no-more); small = small }
+  where
+    there : (w : Why) → getElem? whys (whyCode w) ≡ some w
+    there w = elim w [
+      | Why.Restart ↦ refl
+      | Why.Replacement ↦ refl
+      | OwnRestart ↦ refl
+      | Ended ↦ refl
+      | Orphaned ↦ refl
+      | Disconnect ↦ refl
+      | Dead ↦ refl
+      | Admin ↦ refl
+      | Closed ↦ refl
+    ]
+
+    small : (w : Why) → whyCode w < 256
+    small w = elim w [
+      | Why.Restart ↦ lit< tt
+      | Why.Replacement ↦ lit< tt
+      | OwnRestart ↦ lit< tt
+      | Ended ↦ lit< tt
+      | Orphaned ↦ lit< tt
+      | Disconnect ↦ lit< tt
+      | Dead ↦ lit< tt
+      | Admin ↦ lit< tt
+      | Closed ↦ lit< tt
+    ]
+
+pub flag-reads : Reads flag (λ b. Unit {0}) (λ b. one b ∷ [])
+flag-reads = code-reads flags one flag-codes
+
+pub state-reads : Reads (code states) (λ v. Unit {0}) (λ v. stateCode v ∷ [])
+state-reads = code-reads states stateCode state-codes
+
+pub why-reads : Reads (code whys) (λ w. Unit {0}) (λ w. whyCode w ∷ [])
+why-reads = code-reads whys whyCode why-codes
 
 -- ---- pairs and messages
 

@@ -1,22 +1,24 @@
 -- A record that is accepted is the only spelling of what it says, and what is spelt reads back.
-use mathlib.Core.Path.{_≡_, refl, sym, ap, _∙_}
+use mathlib.Core.Path.{_≡_, refl, sym, ap}
 use mathlib.Core.Logic.{_⊎_, inl, inr}
-use mathlib.Core.Bool.{Bool, true, false, _&&_}
+use mathlib.Core.Bool.{false, _&&_}
 use mathlib.Core.Option.{Option, none, some}
-use mathlib.Core.List.{List, [], _∷_, _++_, append-assoc, append-nil}
-use Prim.Native.Nat.{ℕ, zero, suc, _+_, _^_, _≤_, _<_}
+use mathlib.Core.List.{[], _∷_, _++_, append-assoc, append-nil}
+use Prim.Native.Nat.{ℕ, _+_, _≤_, _<_}
 use native.Mathlib.Omega.{arith}
-use borrow.Author.Tests.{eq-eqb}
+use borrow.Author.Tests.{eq-eqb, le-ltb}
 use lib.Dec.{eqb, lit<, lit≤}
 use lib.ListN.{length, getElem?, length-append}
-use Rattle.rules.specs.Base.{if_then_else_, option, one, Bytes, All}
-use Rattle.rules.specs.Time.{Params, default}
-use Rattle.rules.specs.Data.{Pair, Hello, Call}
+use Rattle.rules.specs.Base.{if_then_else_, option, Bytes, All}
+use Rattle.rules.specs.Time.{Params, default, outOfRange}
+use Rattle.rules.specs.Data.{Pair, Table, Hello, Call}
 use Rattle.rules.specs.Field.{Reader, bind, number, fail, give, digits, pairBytes, messageBytes, frame}
-use Rattle.rules.specs.Record.{hello, helloBytes, dialFields, linkFields, arrivedFields, msg1Fields, replacementFields, msg2Fields, restartedFields, heardFields, removeFields, pathFields, releaseFields, kinds, callKind, callBytes, Timed, timed, Begin, finished, framed, readCall, spellCall, settings, settingsBytes, form, formBytes, beginFields, begin, readNew, spellNew}
+use Rattle.rules.specs.Record.{helloBytes, dialFields, linkFields, arrivedFields, msg1Fields, replacementFields, msg2Fields, restartedFields, heardFields, removeFields, pathFields, releaseFields, kinds, callKind, callBytes, Timed, timed, Begin, finished, framed, readCall, spellCall, settings, settingsBytes, form, formBytes, beginFields, begin, readNew, spellNew}
+use Rattle.rules.specs.Settle.{step}
+use Rattle.rules.specs.Entry.{newTable, Made, new, call}
 use Rattle.rules.specs.Bounds.{IsByte, Exactly, AtMost, IfAny, Word, PairFits}
-use Rattle.rules.proofs.Fields.{Speaks, bind-speaks, then-speaks, last-speaks, give-speaks, so-speaks, bytes-reads, number-reads, digit, length-digits, code-speaks, pair-reads, message-reads}
-use Rattle.rules.proofs.CallFits.{HelloFits, CallFits, TimedFits, SettingsFit, BeginFits, flag-reads, state-reads, why-reads, hello-reads, settings-reads, meant, Whole, Said, said, Begun, begun}
+use Rattle.rules.proofs.Fields.{Speaks, bind-speaks, then-speaks, last-speaks, give-speaks, so-speaks, bytes-reads, number-reads, digit, length-digits, code-speaks, flag-reads, state-reads, why-reads, pair-reads, message-reads}
+use Rattle.rules.proofs.CallFits.{HelloFits, CallFits, TimedFits, SettingsFit, hello-reads, settings-reads, meant, said, begun}
 
 -- ---- frames
 
@@ -101,21 +103,29 @@ kind-small Call.Wake = lit< tt
 
 call-speaks : (c : Call) → CallFits c → Speaks (option (getElem? kinds (callKind c)) fail λ f. f) (callBytes c) c
 unfolding kinds callBytes dialFields linkFields arrivedFields msg1Fields replacementFields msg2Fields restartedFields heardFields removeFields pathFields releaseFields
-call-speaks (Call.Dial p to m l) h = so-speaks (then-speaks (bytes-reads 16) _ (h .peer) (then-speaks pair-reads _ (h .pair) (then-speaks message-reads _ (h .msg1) (then-speaks (number-reads 4) _ (h .lease) give-speaks)))) (simp (append-assoc, append-nil))
+call-speaks (Call.Dial p to m l) h = so-speaks
+    (then-speaks (bytes-reads 16) _ (h .peer) (then-speaks pair-reads _ (h .pair) (then-speaks message-reads _ (h .msg1) (then-speaks (number-reads 4) _ (h .lease) give-speaks))))
+    (simp (append-assoc, append-nil))
 call-speaks (Call.Abandon n) h = so-speaks (then-speaks (number-reads 8) _ h give-speaks) (simp append-nil)
 call-speaks (Call.Arrived p m) h = so-speaks (then-speaks pair-reads _ (h .0) (then-speaks message-reads _ (h .1) give-speaks)) (simp append-nil)
 call-speaks (Call.Msg1 x f) h = so-speaks (then-speaks hello-reads _ h (then-speaks flag-reads _ tt give-speaks)) (simp append-nil)
 call-speaks (Call.Replacement x) h = so-speaks (then-speaks hello-reads _ h give-speaks) (simp append-nil)
 call-speaks (Call.Sent n) h = so-speaks (then-speaks (number-reads 8) _ h give-speaks) (simp append-nil)
 call-speaks (Call.Unsent n) h = so-speaks (then-speaks (number-reads 8) _ h give-speaks) (simp append-nil)
-call-speaks (Call.Msg2 n e p) h = so-speaks (then-speaks (number-reads 8) _ (h .0) (then-speaks (number-reads 8) _ (h .1) (then-speaks pair-reads _ (h .2) give-speaks))) (simp (append-assoc, append-nil))
+call-speaks (Call.Msg2 n e p) h = so-speaks
+    (then-speaks (number-reads 8) _ (h .0) (then-speaks (number-reads 8) _ (h .1) (then-speaks pair-reads _ (h .2) give-speaks)))
+    (simp (append-assoc, append-nil))
 call-speaks (Call.Restarted p e) h = so-speaks (then-speaks (bytes-reads 16) _ (h .0) (then-speaks (number-reads 8) _ (h .1) give-speaks)) (simp append-nil)
 call-speaks (Call.Heard p f) h = so-speaks (then-speaks (bytes-reads 16) _ (h .0) (then-speaks pair-reads _ (h .1) give-speaks)) (simp append-nil)
 call-speaks (Call.Remove p w) h = so-speaks (then-speaks (bytes-reads 16) _ h (then-speaks why-reads _ tt give-speaks)) (simp append-nil)
 call-speaks Call.Poll h = give-speaks
 call-speaks Call.Close h = give-speaks
-call-speaks (Call.Path n p v) h = so-speaks (then-speaks (number-reads 8) _ (h .0) (then-speaks pair-reads _ (h .1) (then-speaks state-reads _ tt give-speaks))) (simp (append-assoc, append-nil))
-call-speaks (Call.Release n p k) h = so-speaks (then-speaks (number-reads 8) _ (h .0) (then-speaks pair-reads _ (h .1) (then-speaks flag-reads _ tt give-speaks))) (simp (append-assoc, append-nil))
+call-speaks (Call.Path n p v) h = so-speaks
+    (then-speaks (number-reads 8) _ (h .0) (then-speaks pair-reads _ (h .1) (then-speaks state-reads _ tt give-speaks)))
+    (simp (append-assoc, append-nil))
+call-speaks (Call.Release n p k) h = so-speaks
+    (then-speaks (number-reads 8) _ (h .0) (then-speaks pair-reads _ (h .1) (then-speaks flag-reads _ tt give-speaks)))
+    (simp (append-assoc, append-nil))
 call-speaks Call.Wake h = give-speaks
 
 pub spelt-reads : (x : Timed) → TimedFits x → readCall (spellCall x) ≡ some x
@@ -160,3 +170,14 @@ begins-spelt s b h e = let w = begun s b h e in go (w .means .given) (w .means .
         → ((b .params ≡ default) × (s ≡ spellNew (b .now) (b .me) (b .first) none)) ⊎ (s ≡ spellNew (b .now) (b .me) (b .first) (some (b .params)))
     go none v e = inl (sym v, e)
     go (some c) v e = inr (rw v at e)
+
+-- ---- the entries, on what is spelt
+
+pub call-spelt : (x : Timed) → TimedFits x → (buffer : ℕ) → 10_240 ≤ buffer → (t : Table) → call (spellCall x) buffer t ≡ step (x .now) (x .call) t
+unfolding call
+call-spelt x h buffer b t = rw (le-ltb buffer 10_240 b, spelt-reads x h)
+
+pub new-spelt : (now : ℕ) (me : Bytes) (first : ℕ) (f : Option Params) → Word now → Exactly 16 me → Word first → IfAny SettingsFit f → outOfRange (meant f) ≡ false
+    → new (spellNew now me first f) ≡ Made (newTable me first (meant f))
+unfolding new
+new-spelt now me first f h m l c o = rw (spelt-begins now me first f h m l c, o)

@@ -1,11 +1,11 @@
 -- Spans and deadlines in nanoseconds: the plain forms, and that the definitions over Duration and Instant equal them.
 use mathlib.Core.Path.{_≡_, refl, sym, ap, _∙_}
 use mathlib.Core.Bool.{Bool, true, false, _&&_, _||_}
-use mathlib.Core.Option.{Option, none, some}
+use mathlib.Core.Option.{none, some}
 use Prim.Native.Nat.{ℕ, zero, suc, _+_, _-_, _*_, _/_, _%_, _^_, _≤_, _<_, min}
 use native.Mathlib.Nat.{one-mul, pow-suc, pow-le-pow-right}
 use native.Mathlib.Omega.{arith}
-use borrow.Author.Tests.{ltb-true, ltb-false, eqb-true, eqb-false, leb-true, leb-false, lt-ltb, le-ltb, le-leb, lt-leb}
+use borrow.Author.Tests.{ltb-true, ltb-false, eqb-true, eqb-false, leb-true, leb-false, lt-ltb, le-ltb}
 use lib.Dec.{eqb, leb, ltb, lit<, lit≤}
 use lib.Pow.{shl-exact}
 use Rattle.rules.specs.Base.{if_then_else_, option}
@@ -37,7 +37,8 @@ shorter-as : (a b : Duration) → a .nanos < 1_000_000_000 → b .nanos < 1_000_
 unfolding shorter
 shorter-as a b h k = go (ltb (a .secs) (b .secs)) (eqb (a .secs) (b .secs)) (ltb (a .nanos) (b .nanos)) refl refl refl
   where
-    go : (x y z : Bool) → ltb (a .secs) (b .secs) ≡ x → eqb (a .secs) (b .secs) ≡ y → ltb (a .nanos) (b .nanos) ≡ z → x || (y && z) ≡ ltb (asNanos a) (asNanos b)
+    go : (x y z : Bool) → ltb (a .secs) (b .secs) ≡ x → eqb (a .secs) (b .secs) ≡ y → ltb (a .nanos) (b .nanos) ≡ z
+        → x || (y && z) ≡ ltb (asNanos a) (asNanos b)
     go true y z p q r = sym (lt-ltb (asNanos a) (asNanos b) (omega (arith, ltb-true (a .secs) (b .secs) p)))
     go false true true p q r = sym (lt-ltb (asNanos a) (asNanos b) (omega (arith, eqb-true (a .secs) (b .secs) q, ltb-true (a .nanos) (b .nanos) r)))
     go false true false p q r = sym (le-ltb (asNanos a) (asNanos b) (omega (arith, eqb-true (a .secs) (b .secs) q, ltb-false (a .nanos) (b .nanos) r)))
@@ -112,7 +113,8 @@ unfolding deadline
 deadline-nanos now d w = rw (shortest-nanos d ceilingNanos) (reach-nanos 64 now (min d ceilingNanos) w)
 
 -- a resend's backoff may be cut to the ceiling first
-pub resend-nanos : (now e base : ℕ) → Word now → deadline now (backoff e (fromNanos base) durationMax) ≡ deadline now (fromNanos (min (base * factor e) ceilingNanos))
+pub resend-nanos : (now e base : ℕ) → Word now
+    → deadline now (backoff e (fromNanos base) durationMax) ≡ deadline now (fromNanos (min (base * factor e) ceilingNanos))
 resend-nanos now e base w =
     let m : min (min (base * factor e) longest) ceilingNanos ≡ min (min (base * factor e) ceilingNanos) ceilingNanos = omega arith in
     rw (backoff-long e base longest (lit≤ tt), deadline-nanos now (min (base * factor e) longest) w, deadline-nanos now (min (base * factor e) ceilingNanos) w, m)
@@ -146,7 +148,8 @@ unfolding reach checkedAdd
 reach-most zero now d w = w
 reach-most (suc k) now d w = go (leb (now + asNanos d) lastReading) (isZero d) refl (reach-most k now (half d) w)
   where
-    go : (x z : Bool) → leb (now + asNanos d) lastReading ≡ x → Word (reach k now (half d)) → Word (option (if x then some (now + asNanos d) else none) (if z then now else reach k now (half d)) (λ at. at))
+    go : (x z : Bool) → leb (now + asNanos d) lastReading ≡ x → Word (reach k now (half d))
+        → Word (option (if x then some (now + asNanos d) else none) (if z then now else reach k now (half d)) (λ at. at))
     go true z e ih = let h : now + asNanos d ≤ lastReading = leb-true (now + asNanos d) lastReading e in omega arith
     go false true e ih = w
     go false false e ih = ih
