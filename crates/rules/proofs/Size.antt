@@ -1,19 +1,20 @@
--- What a call writes: each output within its widths, and all of them within 10,240 bytes.
+-- What a call makes: the table within its widths, each output too, and all that it writes within 10,240 bytes.
 use mathlib.Core.Path.{_≡_}
 use mathlib.Core.Bool.{Bool, true, false, not, _&&_, _||_}
 use mathlib.Core.Option.{Option, none, some}
 use mathlib.Core.List.{List, [], _∷_, _++_, map}
 use Prim.Native.Nat.{ℕ, suc, _+_, _-_, _*_, _^_, _≤_, _<_, min}
 use native.Mathlib.Omega.{arith}
+use borrow.Author.Tests.{eqb-false}
 use lib.Dec.{eqb, leb, ltb}
 use lib.ListN.{length, length-append, length-map}
 use Rattle.rules.specs.Base.{if_then_else_, option, is, orElse, Bytes, same, empty, find, any, keep, tally, All}
 use Rattle.rules.specs.Std.{before}
-use Rattle.rules.specs.Data.{Pair, samePair, APeer, Proven, LinkRec, Leg, Held, Table, Hello, Call, Source, Why, Transition, Installed, Output, Step, Result}
-use Rattle.rules.specs.Data.{Opened, Resend, Rekey, Install, Reset, Retire, Free, Retry, Reject}
+use Rattle.rules.specs.Data.{Pair, samePair, APeer, Proven, LinkRec, Answered, Leg, Held, Table, Hello, Call, Source, Why, Transition, Installed, Output, Step, Result}
+use Rattle.rules.specs.Data.{Opened, Resend, Rekey, Install, Reset, Retire, Free, Retry, Reject, Promote, Replace, Keep}
 use Rattle.rules.specs.Links.{numbered, indexed, inUse, hold, once, addresses, retired, retiring, released, releasing}
-use Rattle.rules.specs.Legs.{onLink, answered, dialing, storedMsg2, due, overdue, resends, wake, nextWake}
-use Rattle.rules.specs.Settle.{still, _▸_, legAt, heldAt, linkAt, named, numbering, entering, dial, ends, abandon, Stored, storedOn, storedIn, stored, full, arrived, closes, retries, removed, remove, denied, asked, displaces, answer, stamp, admitted, admit, msg1, promote, sent, unsent, dialed, moveto, own, msg2, restarted, heard, abandons, poll, retirings, closeLegs, removes, close, crowded, addPath, release, step, places}
+use Rattle.rules.specs.Legs.{onLink, answered, dialing, resent, markSent, markUnsent, storedMsg2, due, overdue, resends, wake, nextWake}
+use Rattle.rules.specs.Settle.{still, writes, _▸_, legAt, heldAt, linkAt, named, numbering, entering, dial, ends, abandon, Stored, storedOn, storedIn, stored, full, arrived, closes, retries, removed, remove, denied, asked, displaces, answer, stamp, admitted, admit, msg1, promote, sent, unsent, dialed, moveto, own, msg2, restarted, heard, abandons, poll, retirings, closeLegs, removes, close, crowded, addPath, release, step, places}
 use Rattle.rules.specs.Field.{pairBytes, messageBytes, frame}
 use Rattle.rules.specs.Output.{pairsBytes, listBytes, installBytes, outputBytes, outputRecord, outputs}
 use Rattle.rules.specs.Record.{readCall}
@@ -22,9 +23,9 @@ use Rattle.rules.specs.Bounds.{IsByte, Word, Exactly, AtMost, IfAny, Pai
 use Rattle.rules.proofs.Lists.{if-by, option-by, tally-append, all-append, all-map}
 use Rattle.rules.proofs.Good.{own-link}
 use Rattle.rules.proofs.Fields.{length-digits}
-use Rattle.rules.proofs.CallFits.{HelloFits, CallFits, accepted-fits}
+use Rattle.rules.proofs.CallFits.{HelloFits, DialFits, CallFits, accepted-fits}
 use Rattle.rules.proofs.Order.{all-find, all-without, all-kept, all-mapped, length-less, length-keep}
-use Rattle.rules.proofs.Widths.{leg-fits, held-fits, link-fits, answered-fits, if-any, hold-fits, widths-ends, widths-removed, widths-stamp, widths-close-legs}
+use Rattle.rules.proofs.Widths.{leg-fits, held-fits, link-fits, answered-fits, if-any, hold-fits, resent-fits, sent-fits, unsent-fits, widths-dial, widths-answer, widths-legs, widths-ends, widths-removed, widths-stamp, widths-promote, widths-dialed, widths-moveto, widths-renewed, widths-heard, widths-close-legs, widths-path, widths-release}
 
 -- ---- outputs within their widths
 
@@ -131,11 +132,23 @@ pub record Wrote (n : ℕ) (os : List Output) : Type 0 where
 wrote-nothing : {n : ℕ} → Wrote n []
 wrote-nothing = record { fits = tt; cost = omega arith }
 
-both : {m n : ℕ} {s u : List Output} → Wrote m s → Wrote n u → Wrote (m + n) (s ++ u)
-both {s = s} {u = u} x y = record { fits = all-append OutputFits s u (x .fits) (y .fits); cost = omega (arith, tally-append cost s u, x .cost, y .cost) }
+wrote-both : {l m n : ℕ} {s u : List Output} → Wrote m s → Wrote n u → m + n ≤ l → Wrote l (s ++ u)
+wrote-both {s = s} {u = u} x y h = record { fits = all-append OutputFits s u (x .fits) (y .fits); cost = omega (arith, tally-append cost s u, x .cost, y .cost) }
 
-within : {n : ℕ} (m : ℕ) {os : List Output} → m ≤ n → Wrote m os → Wrote n os
-within m h x = record { fits = x .fits; cost = omega (arith, x .cost) }
+-- a step: its table within the widths, and what it wrote
+pub record Makes (n : ℕ) (s : Step) : Type 0 where
+  pub widths : Widths (s .table)
+  pub wrote : Wrote n (s .outs)
+
+makes-still : {n : ℕ} {t : Table} → Widths t → Makes n (still t)
+makes-still k = record { widths = k; wrote = wrote-nothing }
+
+both : {l m n : ℕ} {s : Step} (f : Table → Step) → Makes m s → Makes n (f (s .table)) → m + n ≤ l → Makes l (s ▸ f)
+unfolding _▸_
+both f x y h = record { widths = y .widths; wrote = wrote-both (x .wrote) (y .wrote) h }
+
+within : {n : ℕ} (m : ℕ) {s : Step} → m ≤ n → Makes m s → Makes n s
+within m h x = record { widths = x .widths; wrote = record { fits = x .wrote .fits; cost = omega (arith, x .wrote .cost) } }
 
 -- ---- what is listed
 
@@ -241,17 +254,12 @@ spends-both {t} {s} f x y = record {
 }
 
 module _ (t : Table) (k : Widths t) where
-  ends-fit : (g : Leg) → LegFits g → All OutputFits ((ends g t) .outs)
-  unfolding ends
-  ends-fit g f = (f .lease, ((f .link, retiring-fits (g .link) (t .links) (k .links)), tt))
-
   spends-ends : (g : Leg) → legAt (g .link) t ≡ some g → Spends t (ends g t)
   unfolding ends
-  spends-ends g e = record {
-    widths = widths-ends t k g;
-    fits = ends-fit g (leg-fits t k (g .link) g e);
-    cost = omega (arith, (retiring-fits (g .link) (t .links) (k .links)) .size, length-less (onLink (g .link)) (t .legs) g e);
-  }
+  spends-ends g e =
+      let f = leg-fits t k (g .link) g e in
+      let x = retiring-fits (g .link) (t .links) (k .links) in
+      record { widths = widths-ends t k g; fits = (f .lease, ((f .link, x), tt)); cost = omega (arith, x .size, length-less (onLink (g .link)) (t .legs) g e) }
 
   spends-abandon : (n : ℕ) → Spends t (abandon n t)
   unfolding abandon
@@ -285,29 +293,29 @@ frees : (s : List Leg) → All LegFits s → Wrote (8 * length s) (map (λ g. Fr
 frees [] f = record { fits = tt; cost = omega arith }
 frees (g ∷ s) f = let x = frees s (f .1) in record { fits = (f .0 .lease, x .fits); cost = omega (arith, x .cost) }
 
-abbrev Enough : List Output → Type 0
-Enough os = Wrote 10_240 os
-
 Q : Step → Type 0
-Q s = Wrote 10_240 (s .outs)
+Q s = Makes 10_240 s
 
 R : Result → Type 0
-R d = Wrote 10_240 (d .step .outs)
+R d = Makes 10_240 (d .step)
 
 module _ (t : Table) (k : Widths t) (l : Limits t) where
-  wrote-abandon : (n : ℕ) → Q (abandon n t)
+  makes-abandon : (n : ℕ) → Q (abandon n t)
   unfolding Q
-  wrote-abandon n = let x = spends-abandon t k n in record { fits = x .fits; cost = omega (arith, x .cost, l .links, l .owners) }
+  makes-abandon n = let x = spends-abandon t k n in record { widths = x .widths; wrote = record { fits = x .fits; cost = omega (arith, x .cost, l .links, l .owners) } }
 
-  wrote-poll : (now : ℕ) → Q (poll now t)
+  makes-poll : (now : ℕ) → Q (poll now t)
   unfolding poll _▸_ Q
-  wrote-poll now =
+  makes-poll now =
       let u : Step = abandons (overdue now (t .legs)) t in
       let x = spends-abandons (overdue now (t .legs)) t k in
       let y = resends-wrote now (u .table .legs) (x .widths .legs) in
       record {
-        fits = all-append OutputFits (u .outs) (resends now (u .table .legs)) (x .fits) (y .fits);
-        cost = omega (arith, tally-append cost (u .outs) (resends now (u .table .legs)), x .cost, y .cost, l .links, l .owners);
+        widths = x .widths;
+        wrote = record {
+          fits = all-append OutputFits (u .outs) (resends now (u .table .legs)) (x .fits) (y .fits);
+          cost = omega (arith, tally-append cost (u .outs) (resends now (u .table .legs)), x .cost, y .cost, l .links, l .owners);
+        };
       }
 
   wrote-close-legs : Wrote (5 + 273 * length (t .legs)) ((closeLegs t) .outs)
@@ -317,165 +325,181 @@ module _ (t : Table) (k : Widths t) (l : Limits t) where
       let x = retirings-fits (t .legs) (t .links) (k .links) in
       let y : Wrote (5 + 265 * length (t .legs)) (if empty ps then [] else Output.Close ps ∷ []) = if-by (Wrote (5 + 265 * length (t .legs))) (empty ps) (λ e. wrote-nothing)
       (λ e. record { fits = (record { size = omega (arith, x .size, l .links, l .owners); each = x .each }, tt); cost = omega (arith, x .size) }) in
-      within (8 * length (t .legs) + (5 + 265 * length (t .legs))) (omega arith) (both (frees (t .legs) (k .legs)) y)
+      wrote-both (frees (t .legs) (k .legs)) y (omega arith)
 
-  wrote-close : (now : ℕ) → Word now → Q (close now t)
+  -- at most 9,573 bytes, with 32 held peers
+  makes-close : (now : ℕ) → Word now → Q (close now t)
   unfolding close closeLegs _▸_ Q
-  wrote-close now w =
+  makes-close now w =
       let u : Step = closeLegs t in
+      let ps : List Bytes = map (λ h. h .peer) (t .held) in
+      let fit : All (Exactly 16) ps = all-mapped (λ h. h .peer) (Exactly 16) (t .held) (all-map HeldFits (λ h. Exactly 16 (h .peer)) (λ h f. f .peer) (t .held) (k .held)) in
       let x = wrote-close-legs in
-      let y = spends-removes now (map (λ h. h .peer) (t .held)) (u .table) w (all-mapped (λ h. h .peer) (Exactly 16) (t .held) (all-map HeldFits (λ h. Exactly 16 (h .peer)) (λ h f. f .peer) (t .held) (k .held))) (widths-close-legs t k) in
-      let v : List Output = (removes now (map (λ h. h .peer) (t .held)) (u .table)) .outs in
-      record { fits = all-append OutputFits (u .outs) v (x .fits) (y .fits); cost = omega (arith, tally-append cost (u .outs) v, x .cost, y .cost, l .links, l .owners) }
+      let y = spends-removes now ps (u .table) w fit (widths-close-legs t k) in
+      let v : List Output = (removes now ps (u .table)) .outs in
+      record { widths = y .widths; wrote = record { fits = all-append OutputFits (u .outs) v (x .fits) (y .fits); cost = omega (arith, tally-append cost (u .outs) v, x .cost, y .cost, l .links, l .owners) } }
 
--- with the lease freed
-with-free : {o : Output} (n : ℕ) → OutputFits o → cost o ≤ 1_000 → n < 2 ^ 32 → Enough (o ∷ Free n ∷ [])
-with-free n f c v = record { fits = (f, (v, tt)); cost = omega arith }
-
-wrote-numbering : (t : Table) (d : Result) → R d → R (numbering t d)
+-- a refused call changes nothing; past refusal 4 the next number has one after it
+makes-numbering : (t : Table) (d : Result) → Widths t → (Word (t .next + 1) → R d) → R (numbering t d)
 unfolding numbering R
-wrote-numbering t d x = if-by R (eqb (t .next) (2 ^ 64 - 1)) (λ e. wrote-nothing) (λ e. x)
+makes-numbering t d k f = if-by R (eqb (t .next) (2 ^ 64 - 1)) (λ e. makes-still k) (λ e. f (omega (arith, k .next, eqb-false (t .next) (2 ^ 64 - 1) e)))
 
-wrote-entering : (p : Bytes) (t : Table) (d : Result) → R d → R (entering p t d)
+makes-entering : (p : Bytes) (t : Table) (d : Result) → Widths t → R d → R (entering p t d)
 unfolding entering R
-wrote-entering p t d x = if-by R (leb 32 (length (t .links))) (λ a. wrote-nothing) (λ a. if-by R (not (any (same p) (places t)) && leb 32 (length (places t))) (λ b. wrote-nothing) (λ b. x))
+makes-entering p t d k x = if-by R (leb 32 (length (t .links))) (λ a. makes-still k) (λ a. if-by R (not (any (same p) (places t)) && leb 32 (length (places t))) (λ b. makes-still k) (λ b. x))
+
+-- ---- parts of calls
 
 module _ (t : Table) (k : Widths t) where
-  wrote-removed : (now : ℕ) (p : Bytes) (why : Why) (h : Held) → Exactly 16 p → HeldFits h → Wrote 319 ((removed now p why h t) .outs)
+  makes-removed : (now : ℕ) (p : Bytes) (why : Why) (h : Held) → Word now → Exactly 16 p → heldAt p t ≡ some h → Makes 319 (removed now p why h t)
   unfolding removed
-  wrote-removed now p why h q f =
+  makes-removed now p why h w q e =
       let x : ListFits 5 (if closes why then retiring (h .link) (t .links) else []) = if-by (ListFits 5) (closes why) (λ e. retiring-fits (h .link) (t .links) (k .links)) (λ e. record { size = omega arith; each = tt }) in
       let y : Wrote 20 (if retries why then Retry p ∷ [] else []) = if-by (Wrote 20) (retries why) (λ e. record { fits = (q, tt); cost = omega arith }) (λ e. wrote-nothing) in
-      record { fits = (q, ((f .link, x), y .fits)); cost = omega (arith, x .size, y .cost) }
+      record { widths = widths-removed t k now p why h w e; wrote = record { fits = (q, (((held-fits t k p h e) .link, x), y .fits)); cost = omega (arith, x .size, y .cost) } }
 
-  wrote-remove : (now : ℕ) (p : Bytes) (why : Why) → Exactly 16 p → Q (remove now p why t)
-  unfolding remove Q
-  wrote-remove now p why q = option-by Q (heldAt p t) (λ e. wrote-nothing) (λ h e. within 319 (omega arith) (wrote-removed now p why h q (held-fits t k p h e)))
+  makes-ends : (g : Leg) → LegFits g → Makes 286 (ends g t)
+  unfolding ends
+  makes-ends g f = let x = retiring-fits (g .link) (t .links) (k .links) in record { widths = widths-ends t k g; wrote = record { fits = (f .lease, ((f .link, x), tt)); cost = omega (arith, x .size) } }
 
-  wrote-stored : (p : Pair) (b : Bytes) (o : Stored) → stored p b t ≡ some o → StoredFits o
-  unfolding stored
-  wrote-stored p b o e = if-any StoredFits (stored p b t) o e (stored-fits p b (t .legs) (t .links) (k .legs) (k .links))
-
-  wrote-arrived : (p : Pair) (b : Bytes) → Q (arrived p b t)
-  unfolding arrived Q
-  wrote-arrived p b = option-by Q (stored p b t)
-      (λ e. if-by Enough (full t) (λ z. record { fits = (tt, tt); cost = omega arith }) (λ z. wrote-nothing))
-      (λ o e. let x = wrote-stored p b o e in record { fits = ((x .link, x .msg2), tt); cost = omega arith })
-
-  wrote-answer : (now : ℕ) (x : Hello) (b : Bool) → HelloFits x → Wrote 143 ((answer now x b t) .outs)
+  makes-answer : (now : ℕ) (x : Hello) (b : Bool) → Word now → Word (t .next + 1) → HelloFits x → Makes 143 (answer now x b t)
   unfolding answer
-  wrote-answer now x b f = record { fits = ((k .next, f .msg2), tt); cost = omega arith }
+  makes-answer now x b w v f = record { widths = widths-answer t k now x b w v f; wrote = record { fits = ((k .next, f .msg2), tt); cost = omega arith } }
 
-module _ (t : Table) (k : Widths t) where
-  wrote-admit : (now : ℕ) (s : Source) (x : Hello) → Word now → HelloFits x → R (admit now s x t)
-  unfolding admit admitted _▸_ stamp R
-  wrote-admit now s x w f =
-      let j : Source = asked s (heldAt (x .peer) t) in
-      option-by R (denied now j x t)
-      (λ e. option-by R (heldAt (x .peer) t) (λ n. wrote-entering (x .peer) t _ (within 143 (omega arith) (wrote-answer t k now x false f)))
-      (λ h n. within (319 + 143) (omega arith) (over j h n)))
-      (λ why e. with-free (x .lease) (f .peer) (omega arith) (f .lease))
-    where
-      over : (j : Source) (h : Held) → heldAt (x .peer) t ≡ some h
-          → Wrote (319 + 143) ((removed now (x .peer) (displaces j) h (stamp now h t)) .outs ++ (answer now x true ((removed now (x .peer) (displaces j) h (stamp now h t)) .table)) .outs)
-      over j h n =
-          let u = widths-stamp t k now (x .peer) h w n in
-          both (wrote-removed (stamp now h t) u now (x .peer) (displaces j) h (f .peer) (held-fits t k (x .peer) h n))
-          (wrote-answer _ (widths-removed (stamp now h t) u now (x .peer) (displaces j) h w n) now x true f)
+  makes-promote : (now : ℕ) (p : Bytes) (a : Answered) (g : Leg) (r : LinkRec) → Word now → LegFits g → g .peer ≡ some p → answered (g .kind) ≡ some a → LinkFits r → Makes 108 (promote now p a g r t)
+  unfolding promote
+  makes-promote now p a g r w f e z y =
+      let q : Exactly 16 p = if-any (Exactly 16) (g .peer) p e (f .peer) in
+      record { widths = widths-promote t k now p a g r w f e z y; wrote = record { fits = (record { peer = q; link = f .link; pair = y .setup; lease = f .lease }, (q, tt)); cost = omega arith } }
 
-  wrote-msg1 : (now : ℕ) (x : Hello) (b : Bool) → Word now → HelloFits x → R (msg1 now x b t)
-  unfolding msg1 R
-  wrote-msg1 now x b w f = option-by R (stored (x .from) (x .bytes) t)
-      (λ e. option-by R (heldAt (x .peer) t) (λ n. wrote-admit now Source.NotHeld x w f)
-      (λ h n. if-by R (not (eqb (h .epoch) (x .epoch))) (λ q. wrote-admit now Source.Restart x w f) (λ q. with-free (x .lease) (f .peer) (omega arith) (f .lease))))
-      (λ o e. let y = wrote-stored t k (x .from) (x .bytes) o e in with-free (x .lease) (y .link, y .msg2) (omega arith) (f .lease))
-
-  -- an install and its Reset
-  installed : (p : Bytes) (i : Installed) (how : Transition) → Exactly 16 p → InstalledFits i → Wrote 108 (Install i ∷ Reset p how ∷ [])
-  installed p i how q f = record { fits = (f, (q, tt)); cost = omega arith }
-
-  wrote-sent : (now n : ℕ) → Q (sent now n t)
-  unfolding sent promote Q
-  wrote-sent now n = option-by Q (legAt n t) (λ e. wrote-nothing) λ g e.
-      option-by Q (answered (g .kind)) (λ z. wrote-nothing) λ a z.
-      option-by Q (g .peer) (λ v. wrote-nothing) λ p v.
-      if-by Q (is (heldAt p t)) (λ w. wrote-nothing)
-      (λ w. option-by Q (linkAt n t) (λ u. wrote-nothing) λ r u.
-      let f = leg-fits t k n g e in
-      let q : Exactly 16 p = if-any (Exactly 16) (g .peer) p v (f .peer) in
-      within 108 (omega arith) (installed p _ _ q (record { peer = q; link = f .link; pair = (link-fits t k n r u) .setup; lease = f .lease })))
+  makes-dialed : (now : ℕ) (p : Bytes) (g : Leg) (epoch : ℕ) (from : Pair) (how : Transition) → Word now → LegFits g → Exactly 16 p → Word epoch → PairFits from → Makes 108 (dialed now p g epoch from how t)
+  unfolding dialed
+  makes-dialed now p g epoch from how w f q v x = record { widths = widths-dialed t k now p g epoch from how w f q v x; wrote = record { fits = (record { peer = q; link = f .link; pair = x; lease = f .lease }, (q, tt)); cost = omega arith } }
 
   -- the move holds the leg's link before it retires the holder's
-  wrote-moveto : (p : Bytes) (g : Leg) (h : Held) (from : Pair) → LegFits g → HeldFits h → Exactly 16 p → PairFits from → Q (moveto p g h from t)
-  unfolding moveto Q
-  wrote-moveto p g h from f y q x =
-      let s : List LinkRec = hold (g .link) (APeer p) (t .links) in
-      let z = retiring-fits (h .link) s (hold-fits (g .link) p (t .links) q (k .links)) in
-      record { fits = (record { peer = q; link = f .link; pair = x; lease = f .lease }, (q, ((y .link, z), tt))); cost = omega (arith, z .size) }
+  makes-moveto : (p : Bytes) (g : Leg) (h : Held) (from : Pair) → LegFits g → HeldFits h → Exactly 16 p → PairFits from → Makes 386 (moveto p g h from t)
+  unfolding moveto
+  makes-moveto p g h from f y q x =
+      let z = retiring-fits (h .link) (hold (g .link) (APeer p) (t .links)) (hold-fits (g .link) p (t .links) q (k .links)) in
+      record { widths = widths-moveto t k p g h from f q x; wrote = record { fits = (record { peer = q; link = f .link; pair = x; lease = f .lease }, (q, ((y .link, z), tt))); cost = omega (arith, z .size) } }
 
-  wrote-msg2 : (now n epoch : ℕ) (from : Pair) → PairFits from → Q (msg2 now n epoch from t)
-  unfolding msg2 dialed ends _▸_ Q
-  wrote-msg2 now n epoch from x = option-by Q (legAt n t) (λ e. wrote-nothing) λ g e.
-      option-by Q (dialing g) (λ z. wrote-nothing) λ p z.
+  stored-at : (p : Pair) (b : Bytes) (o : Stored) → stored p b t ≡ some o → StoredFits o
+  unfolding stored
+  stored-at p b o e = if-any StoredFits (stored p b t) o e (stored-fits p b (t .legs) (t .links) (k .legs) (k .links))
+
+  -- an output, with the lease freed
+  freed : {o : Output} (n : ℕ) → OutputFits o → cost o ≤ 1_000 → n < 2 ^ 32 → Makes 10_240 (writes (o ∷ Free n ∷ []) t)
+  freed n f c v = record { widths = k; wrote = record { fits = (f, (v, tt)); cost = omega arith } }
+
+-- ---- every call
+
+module _ (now : ℕ) (w : Word now) (t : Table) (k : Widths t) where
+  makes-remove : (p : Bytes) (why : Why) → Exactly 16 p → Q (remove now p why t)
+  unfolding remove Q
+  makes-remove p why q = option-by Q (heldAt p t) (λ e. makes-still k) (λ h e. within 319 (omega arith) (makes-removed t k now p why h w q e))
+
+  makes-arrived : (p : Pair) (b : Bytes) → Q (arrived p b t)
+  unfolding arrived Q
+  makes-arrived p b = option-by Q (stored p b t)
+      (λ e. record { widths = k; wrote = if-by (Wrote 10_240) (full t) (λ z. record { fits = (tt, tt); cost = omega arith }) (λ z. wrote-nothing) })
+      (λ o e. let x = stored-at t k p b o e in record { widths = k; wrote = record { fits = ((x .link, x .msg2), tt); cost = omega arith } })
+
+  makes-admit : (s : Source) (x : Hello) → Word (t .next + 1) → HelloFits x → R (admit now s x t)
+  unfolding admit admitted stamp removed R
+  makes-admit s x v f =
+      let j : Source = asked s (heldAt (x .peer) t) in
+      option-by R (denied now j x t)
+      (λ e. option-by R (heldAt (x .peer) t) (λ n. makes-entering (x .peer) t _ k (within 143 (omega arith) (makes-answer t k now x false w v f))) (λ h n. over j h n))
+      (λ why e. freed t k (x .lease) (f .peer) (omega arith) (f .lease))
+    where
+      over : (j : Source) (h : Held) → heldAt (x .peer) t ≡ some h → Makes 10_240 (removed now (x .peer) (displaces j) h (stamp now h t) ▸ answer now x true)
+      over j h n =
+          let a = makes-removed (stamp now h t) (widths-stamp t k now (x .peer) h w n) now (x .peer) (displaces j) h w (f .peer) n in
+          both (answer now x true) a (makes-answer ((removed now (x .peer) (displaces j) h (stamp now h t)) .table) (a .widths) now x true w v f) (omega arith)
+
+  makes-msg1 : (x : Hello) (b : Bool) → Word (t .next + 1) → HelloFits x → R (msg1 now x b t)
+  unfolding msg1 R
+  makes-msg1 x b v f = option-by R (stored (x .from) (x .bytes) t)
+      (λ e. option-by R (heldAt (x .peer) t) (λ n. makes-admit Source.NotHeld x v f)
+      (λ h n. if-by R (not (eqb (h .epoch) (x .epoch))) (λ q. makes-admit Source.Restart x v f) (λ q. freed t k (x .lease) (f .peer) (omega arith) (f .lease))))
+      (λ o e. let y = stored-at t k (x .from) (x .bytes) o e in freed t k (x .lease) (y .link, y .msg2) (omega arith) (f .lease))
+
+  makes-sent : (n : ℕ) → Q (sent now n t)
+  unfolding sent Q
+  makes-sent n = option-by Q (legAt n t) (λ e. makes-still k) λ g e.
+      option-by Q (answered (g .kind)) (λ z. makes-still (widths-legs t k (onLink n) (resent (t .params) now) (resent-fits (t .params) now w))) λ a z.
+      option-by Q (g .peer) (λ v. makes-still k) λ p v.
+      if-by Q (is (heldAt p t)) (λ u. makes-still (widths-legs t k (onLink n) markSent sent-fits))
+      (λ u. option-by Q (linkAt n t) (λ y. makes-still k) λ r y. within 108 (omega arith) (makes-promote t k now p a g r w (leg-fits t k n g e) v z (link-fits t k n r y)))
+
+  makes-msg2 : (n epoch : ℕ) (from : Pair) → Word epoch → PairFits from → Q (msg2 now n epoch from t)
+  unfolding msg2 Q
+  makes-msg2 n epoch from v x = option-by Q (legAt n t) (λ e. makes-still k) λ g e.
+      option-by Q (dialing g) (λ z. makes-still k) λ p z.
       let f = leg-fits t k n g e in
       let q : Exactly 16 p = if-any (Exactly 16) (dialing g) p z (option-by (IfAny (Exactly 16)) (answered (g .kind)) (λ y. f .peer) (λ a y. tt)) in
-      option-by Q (heldAt p t) (λ v. within 108 (omega arith) (installed p _ _ q (record { peer = q; link = f .link; pair = x; lease = f .lease }))) λ h v.
+      option-by Q (heldAt p t) (λ c. within 108 (omega arith) (makes-dialed t k now p g epoch from Promote w f q v x)) λ h c.
       if-by Q (not (eqb (h .epoch) epoch))
-      (λ u. within (319 + 108) (omega arith) (both (wrote-removed t k now p Why.OwnRestart h q (held-fits t k p h v)) (installed p _ _ q (record { peer = q; link = f .link; pair = x; lease = f .lease }))))
-      (λ u. if-by Q (own h t || before (t .me) p) (λ c. wrote-moveto p g h from f (held-fits t k p h v) q x)
-      (λ c. let y = retiring-fits (g .link) (t .links) (k .links) in record { fits = (f .lease, ((f .link, y), (q, tt))); cost = omega (arith, y .size) }))
+      (λ u.
+      let a = makes-removed t k now p Why.OwnRestart h w q c in
+      both (dialed now p g epoch from Replace) a (makes-dialed _ (a .widths) now p g epoch from Replace w f q v x) (omega arith))
+      (λ u. if-by Q (own h t || before (t .me) p) (λ y. within 386 (omega arith) (makes-moveto t k p g h from f (held-fits t k p h c) q x))
+      (λ y.
+      let a = makes-ends t k g f in
+      both {n = 21} (writes (Reset p Keep ∷ [])) a (record { widths = a .widths; wrote = record { fits = (q, tt); cost = omega arith } }) (omega arith)))
 
-  wrote-restarted : (p : Bytes) (epoch : ℕ) → Exactly 16 p → Q (restarted p epoch t)
+  makes-restarted : (p : Bytes) (epoch : ℕ) → Exactly 16 p → Word epoch → Q (restarted p epoch t)
   unfolding restarted Q
-  wrote-restarted p epoch q = option-by Q (heldAt p t) (λ e. wrote-nothing) (λ h e. record { fits = (q, tt); cost = omega arith })
+  makes-restarted p epoch q v = option-by Q (heldAt p t) (λ e. makes-still k) (λ h e. record { widths = widths-renewed t k p epoch v; wrote = record { fits = (q, tt); cost = omega arith } })
 
-  wrote-heard : (now : ℕ) (p : Bytes) (from : Pair) → Exactly 16 p → Q (heard now p from t)
+  makes-heard : (p : Bytes) (from : Pair) → Exactly 16 p → PairFits from → Q (heard now p from t)
   unfolding heard Q
-  wrote-heard now p from q = option-by Q (heldAt p t) (λ e. wrote-nothing)
-      (λ h e. if-by Enough (samePair from (h .current)) (λ z. wrote-nothing) (λ z. record { fits = (q, tt); cost = omega arith }))
+  makes-heard p from q f = option-by Q (heldAt p t) (λ e. makes-still k)
+      (λ h e. record { widths = widths-heard t k now p from w q f; wrote = if-by (Wrote 10_240) (samePair from (h .current)) (λ z. wrote-nothing) (λ z. record { fits = (q, tt); cost = omega arith }) })
 
-  wrote-release : (n : ℕ) (p : Pair) (kept : Bool) → Word n → PairFits p → Q (release n p kept t)
+  makes-path : (n : ℕ) (p : Pair) (v : Proven) → PairFits p → R (addPath n p v t)
+  unfolding addPath R
+  makes-path n p v f = if-by R (crowded n p t) (λ e. makes-still k) (λ e. makes-still (widths-path t k n p v f e))
+
+  makes-release : (n : ℕ) (p : Pair) (kept : Bool) → Word n → PairFits p → Q (release n p kept t)
   unfolding release releasing Q
-  wrote-release n p kept w f =
+  makes-release n p kept v f =
       let x : ListFits 1 (releasing n p kept (t .links)) = if-by (ListFits 1) (not (any (numbered n) (t .links)) || kept || inUse p (released n p (t .links)))
       (λ e. record { size = omega arith; each = tt }) (λ e. record { size = omega arith; each = (f, tt) }) in
-      record { fits = ((w, x), tt); cost = omega (arith, x .size) }
+      record { widths = widths-release t k n p; wrote = record { fits = ((v, x), tt); cost = omega (arith, x .size) } }
 
-  wrote-path : (n : ℕ) (p : Pair) (v : Proven) → R (addPath n p v t)
-  unfolding addPath R
-  wrote-path n p v = if-by R (crowded n p t) (λ e. wrote-nothing) (λ e. wrote-nothing)
+  makes-dial : (p : Bytes) (to : Pair) (m : Bytes) (l : ℕ) → Word (t .next + 1) → DialFits p to m l → Q (dial now p to m l t)
+  unfolding dial Q
+  makes-dial p to m l v f = record { widths = widths-dial t k now p to m l w v (f .peer) (f .pair) (f .msg1) (f .lease); wrote = record { fits = (k .next, tt); cost = omega arith } }
 
--- every call
-wrote-step : (now : ℕ) (c : Call) (t : Table) → Word now → CallFits c → Widths t → Limits t → R (step now c t)
-unfolding step dial unsent Q R
-wrote-step now (Call.Dial p to m n) t w f k l = wrote-numbering t _ (wrote-entering p t _ (record { fits = (k .next, tt); cost = omega arith }))
-wrote-step now (Call.Abandon n) t w f k l = wrote-abandon t k l n
-wrote-step now (Call.Arrived p b) t w f k l = wrote-arrived t k p b
-wrote-step now (Call.Msg1 x b) t w f k l = wrote-numbering t _ (wrote-msg1 t k now x b w f)
-wrote-step now (Call.Replacement x) t w f k l = wrote-numbering t _ (wrote-admit t k now Source.Replacement x w f)
-wrote-step now (Call.Sent n) t w f k l = wrote-sent t k now n
-wrote-step now (Call.Unsent n) t w f k l = wrote-nothing
-wrote-step now (Call.Msg2 n e p) t w f k l = wrote-msg2 t k now n e p (f .2)
-wrote-step now (Call.Restarted p e) t w f k l = wrote-restarted t k p e (f .0)
-wrote-step now (Call.Heard p from) t w f k l = wrote-heard t k now p from (f .0)
-wrote-step now (Call.Remove p why) t w f k l = wrote-remove t k now p why f
-wrote-step now Call.Poll t w f k l = wrote-poll t k l now
-wrote-step now Call.Close t w f k l = wrote-close t k l now w
-wrote-step now (Call.Path n p v) t w f k l = wrote-path t k n p v
-wrote-step now (Call.Release n p b) t w f k l = wrote-release t k n p b (f .0) (f .1)
-wrote-step now Call.Wake t w f k l = record { fits = (wake-fits (t .legs) (k .legs), tt); cost = omega arith }
+  makes-step : (c : Call) → CallFits c → Limits t → R (step now c t)
+  unfolding step unsent Q R
+  makes-step (Call.Dial p to m n) f l = makes-numbering t _ k (λ v. makes-entering p t _ k (makes-dial p to m n v f))
+  makes-step (Call.Abandon n) f l = makes-abandon t k l n
+  makes-step (Call.Arrived p b) f l = makes-arrived p b
+  makes-step (Call.Msg1 x b) f l = makes-numbering t _ k (λ v. makes-msg1 x b v f)
+  makes-step (Call.Replacement x) f l = makes-numbering t _ k (λ v. makes-admit Source.Replacement x v f)
+  makes-step (Call.Sent n) f l = makes-sent n
+  makes-step (Call.Unsent n) f l = makes-still (widths-legs t k (onLink n) markUnsent unsent-fits)
+  makes-step (Call.Msg2 n e p) f l = makes-msg2 n e p (f .1) (f .2)
+  makes-step (Call.Restarted p e) f l = makes-restarted p e (f .0) (f .1)
+  makes-step (Call.Heard p from) f l = makes-heard p from (f .0) (f .1)
+  makes-step (Call.Remove p why) f l = makes-remove p why f
+  makes-step Call.Poll f l = makes-poll t k l now
+  makes-step Call.Close f l = makes-close t k l now w
+  makes-step (Call.Path n p v) f l = makes-path n p v (f .1)
+  makes-step (Call.Release n p b) f l = makes-release n p b (f .0) (f .1)
+  makes-step Call.Wake f l = record { widths = k; wrote = record { fits = (wake-fits (t .legs) (k .legs), tt); cost = omega arith } }
+
+pub makes-call : (s : Bytes) (buffer : ℕ) (t : Table) → All IsByte s → Widths t → Limits t → Makes 10_240 ((call s buffer t) .step)
+unfolding call R
+makes-call s buffer t h k l = if-by R (ltb buffer 10_240) (λ e. makes-still k)
+    (λ e. option-by R (readCall s) (λ z. makes-still k) (λ x z. let f = accepted-fits s x h z in makes-step (x .now) (f .now) t k (x .call) (f .call) l))
 
 module _ (s : Bytes) (buffer : ℕ) (t : Table) (h : All IsByte s) (b : Bounds t) where
-  wrote-call : R (call s buffer t)
-  unfolding call R
-  wrote-call = if-by R (ltb buffer 10_240) (λ e. wrote-nothing)
-      (λ e. option-by R (readCall s) (λ z. wrote-nothing) (λ x z. let f = accepted-fits s x h z in wrote-step (x .now) (x .call) t (f .now) (f .call) (b .widths) (b .limits)))
-
   -- each output can be spelt
   pub outputs-fit : All OutputFits ((call s buffer t) .step .outs)
-  unfolding R
-  outputs-fit = wrote-call .fits
+  outputs-fit = (makes-call s buffer t h (b .widths) (b .limits)) .wrote .fits
 
   pub written : length (outputs ((call s buffer t) .step .outs)) ≤ 10_240
-  unfolding R
-  written = omega (arith, outputs-size ((call s buffer t) .step .outs) (wrote-call .fits), wrote-call .cost)
+  written = let x = makes-call s buffer t h (b .widths) (b .limits) in omega (arith, outputs-size ((call s buffer t) .step .outs) (x .wrote .fits), x .wrote .cost)

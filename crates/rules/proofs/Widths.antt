@@ -11,12 +11,13 @@ use lib.ListN.{length}
 use Rattle.rules.specs.Base.{if_then_else_, Bytes, alter, any, All}
 use Rattle.rules.specs.Std.{saturatingAdd}
 use Rattle.rules.specs.Time.{Params}
-use Rattle.rules.specs.Data.{Pair, Dir, APeer, Proven, PathRec, LinkRec, Answered, Kind, Leg, Held, Memory, Table, Hello, Step, Why, Transition, Inbound, Outbound}
+use Rattle.rules.specs.Data.{Pair, Dir, APeer, Proven, PathRec, LinkRec, Answered, Kind, Leg, Held, Memory, Table, Hello, Why, Transition, Inbound, Outbound}
 use Rattle.rules.specs.Links.{numbered, pathAt, opened, heldBy, hold, setPath, withPath, path, withoutPath, released}
 use Rattle.rules.specs.Legs.{onLink, answered, sentKind, unsentKind, dialLeg, answerLeg, resent, markSent, markUnsent}
-use Rattle.rules.specs.Settle.{withLinks, withLegs, withHeld, withGates, joined, legAt, linkAt, heldAt, named, earlierHeld, installs, dial, ends, parted, removed, answer, stamp, promote, dialed, movedTo, moveto, withEpoch, restarted, heardFrom, heard, closeLegs, crowded}
+use Rattle.rules.specs.Gates.{memory, store, clear}
+use Rattle.rules.specs.Settle.{withLinks, withLegs, withHeld, withGates, joined, legAt, linkAt, heldAt, named, earlierHeld, installs, dial, ends, parted, removed, answer, stamp, promote, dialed, movedTo, moveto, withEpoch, heardFrom, heard, closeLegs, crowded}
 use Rattle.rules.specs.Bounds.{Word, Exactly, AtMost, IfAny, PairFits, LinkFits, AnsweredFits, KindFits, LegFits, HeldFits, MemoryFits, Widths}
-use Rattle.rules.proofs.Lists.{if-by, option-by, all-append}
+use Rattle.rules.proofs.Lists.{if-by, all-append}
 use Rattle.rules.proofs.Order.{contra, all-find, all-without, all-kept, all-alter, all-alter-found, all-insert, all-retireds, length-keep, length-alter, length-snoc}
 use Rattle.rules.proofs.CallFits.{HelloFits}
 use Rattle.rules.proofs.Time.{deadline-word}
@@ -236,9 +237,9 @@ module _ (t : Table) (k : Widths t) where
       widths-installs g _ _ (record { peer = q; link = x .link; epoch = z .epoch; current = y .setup; installed = w; last = tt; setup = z .ephemeral })
       (store-fits (t .params) _ (t .gates) (promoted-sizes (t .params) now (a .ephemeral) _ w (z .ephemeral) (sizes-memory (t .params) p (t .gates) q (k .gates))) (k .gates))
 
-  pub widths-dialed : (now : ℕ) (p : Bytes) (g : Leg) (epoch : ℕ) (from : Pair) (how : Transition) → Word now → LegFits g → g .peer ≡ some p → Word epoch → PairFits from → Widths ((dialed now p g epoch from how t) .table)
+  pub widths-dialed : (now : ℕ) (p : Bytes) (g : Leg) (epoch : ℕ) (from : Pair) (how : Transition) → Word now → LegFits g → Exactly 16 p → Word epoch → PairFits from → Widths ((dialed now p g epoch from how t) .table)
   unfolding dialed
-  widths-dialed now p g epoch from how w x e v f = widths-installs g _ (t .gates) (record { peer = if-any (Exactly 16) (g .peer) p e (x .peer); link = x .link; epoch = v; current = f; installed = w; last = tt; setup = tt }) (k .gates)
+  widths-dialed now p g epoch from how w x e v f = widths-installs g _ (t .gates) (record { peer = e; link = x .link; epoch = v; current = f; installed = w; last = tt; setup = tt }) (k .gates)
 
   pub widths-moveto : (p : Bytes) (g : Leg) (h : Held) (from : Pair) → LegFits g → Exactly 16 p → PairFits from → Widths ((moveto p g h from t) .table)
   unfolding moveto
@@ -256,16 +257,15 @@ module _ (t : Table) (k : Widths t) where
   widths-held : (test : Held → Bool) (f : Held → Held) (m : List Memory) → ((h : Held) → HeldFits h → HeldFits (f h)) → All (MemoryFits (t .params)) m → Widths (withGates m (withHeld (alter test f (t .held)) t))
   widths-held test f m h x = record { me = k .me; params = k .params; next = k .next; links = k .links; legs = k .legs; held = all-alter HeldFits test f (t .held) h (k .held); gates = x }
 
-  pub widths-restarted : (p : Bytes) (epoch : ℕ) → Word epoch → Widths ((restarted p epoch t) .table)
-  unfolding restarted
-  widths-restarted p epoch v = option-by (λ (s : Step). Widths (s .table)) (heldAt p t) (λ e. k) (λ h e. widths-held (named p) (withEpoch epoch) (t .gates)
-      (λ j y. record { peer = y .peer; link = y .link; epoch = v; current = y .current; installed = y .installed; last = y .last; setup = y .setup }) (k .gates))
+  pub widths-renewed : (p : Bytes) (epoch : ℕ) → Word epoch → Widths (withHeld (alter (named p) (withEpoch epoch) (t .held)) t)
+  widths-renewed p epoch v = widths-held (named p) (withEpoch epoch) (t .gates)
+      (λ j y. record { peer = y .peer; link = y .link; epoch = v; current = y .current; installed = y .installed; last = y .last; setup = y .setup }) (k .gates)
 
-  pub widths-heard : (now : ℕ) (p : Bytes) (from : Pair) → Word now → Exactly 16 p → PairFits from → Widths ((heard now p from t) .table)
-  unfolding heard
-  widths-heard now p from w q f = option-by (λ (s : Step). Widths (s .table)) (heldAt p t) (λ e. k) (λ h e. widths-held (named p) (heardFrom now from) _
+  pub widths-heard : (now : ℕ) (p : Bytes) (from : Pair) → Word now → Exactly 16 p → PairFits from
+      → Widths (withGates (store (clear (memory p (t .gates))) (t .gates)) (withHeld (alter (named p) (heardFrom now from) (t .held)) t))
+  widths-heard now p from w q f = widths-held (named p) (heardFrom now from) _
       (λ j y. record { peer = y .peer; link = y .link; epoch = y .epoch; current = f; installed = y .installed; last = w; setup = y .setup })
-      (store-fits (t .params) _ (t .gates) (clear-sizes (t .params) _ (sizes-memory (t .params) p (t .gates) q (k .gates))) (k .gates)))
+      (store-fits (t .params) _ (t .gates) (clear-sizes (t .params) _ (sizes-memory (t .params) p (t .gates) q (k .gates))) (k .gates))
 
   pub widths-close-legs : Widths ((closeLegs t) .table)
   unfolding closeLegs
