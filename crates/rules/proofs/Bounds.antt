@@ -50,11 +50,13 @@ module _ (x : Timed) where
   unfolding answer answerLeg
   shaped-answer t z r k y = let o = ordered-answer t z false k (y .ordered) in record { ordered = o; limits = limits-joined t (y .limits) _ _ (z .peer) o refl (r .0) (r .1) }
 
-  shaped-dialed : (t : Table) (p : Bytes) (g : Leg) (epoch : ℕ) (from : Pair) (how : Transition) → legAt (g .link) t ≡ some g → g .peer ≡ some p → All (λ j. named p j ≡ false) (t .held) → Good t → Shaped t
+  shaped-dialed : (t : Table) (p : Bytes) (g : Leg) (epoch : ℕ) (from : Pair) (how : Transition) → legAt (g .link) t ≡ some g → g .peer ≡ some p
+      → All (λ j. named p j ≡ false) (t .held) → Good t → Shaped t
       → Shaped ((dialed (x .now) p g epoch from how t) .table)
   shaped-dialed t p g epoch from how e v n k y = stays y (stays-dialed t k (x .now) p g epoch from how e v) (ordered-dialed t (y .ordered) (x .now) p g epoch from how n)
 
-  shaped-legs : (t : Table) (n : ℕ) (h : Leg → Leg) → ((g : Leg) → (h g) .link ≡ g .link) → ((g : Leg) → (h g) .peer ≡ g .peer) → Good t → Shaped t → Shaped (withLegs (alter (onLink n) h (t .legs)) t)
+  shaped-legs : (t : Table) (n : ℕ) (h : Leg → Leg) → ((g : Leg) → (h g) .link ≡ g .link) → ((g : Leg) → (h g) .peer ≡ g .peer) → Good t → Shaped t
+      → Shaped (withLegs (alter (onLink n) h (t .legs)) t)
   shaped-legs t n h a b k y = stays y (stays-legs t k (onLink n) h b) (ordered-legs t (y .ordered) (onLink n) h a)
 
   shaped : Closed Shaped x

@@ -42,7 +42,9 @@ module _ (c : Params) where
   store-fits m g x k =
       let rest = all-without (MemoryFits c) (memoryOf (m .peer)) g k in
       store-by (All (MemoryFits c)) m g
-      (λ e. all-insert earlierMemory (MemoryFits c) m (without (memoryOf (m .peer)) g) (record { peer = x .peer; stamp = x .stamp; limit = x .limit; replays = x .replays; silence = x .silence; remembers = e }) rest)
+      (λ e.
+      let y : MemoryFits c m = record { peer = x .peer; stamp = x .stamp; limit = x .limit; replays = x .replays; silence = x .silence; remembers = e } in
+      all-insert earlierMemory (MemoryFits c) m (without (memoryOf (m .peer)) g) y rest)
       rest
 
   pub stamped-sizes : (now : ℕ) (m : Memory) → Word now → Sizes c m → Sizes c (stamped now m)

@@ -48,7 +48,8 @@ module _ {A : Type 0} where
   all-alter-found P test f [] k p = tt
   all-alter-found P test f (b ∷ s) k p = go (test b) k (λ h. all-alter-found P test f s h (p .1))
     where
-      go : (c : Bool) → ((a : A) → (if c then some b else find test s) ≡ some a → P a → P (f a)) → (((a : A) → find test s ≡ some a → P a → P (f a)) → All P (alter test f s)) → All P (if c then f b ∷ s else b ∷ alter test f s)
+      go : (c : Bool) → ((a : A) → (if c then some b else find test s) ≡ some a → P a → P (f a))
+          → (((a : A) → find test s ≡ some a → P a → P (f a)) → All P (alter test f s)) → All P (if c then f b ∷ s else b ∷ alter test f s)
       go true h ih = (h b refl (p .0), p .1)
       go false h ih = (p .0, ih h)
 
@@ -67,7 +68,8 @@ module _ {A : Type 0} where
   length-less test [] a e = cc
   length-less test (b ∷ s) a e = go (test b) e (λ h. length-less test s a h)
     where
-      go : (c : Bool) → (if c then some b else find test s) ≡ some a → (find test s ≡ some a → length (without test s) + 1 ≡ length s) → length (if c then s else b ∷ without test s) + 1 ≡ suc (length s)
+      go : (c : Bool) → (if c then some b else find test s) ≡ some a → (find test s ≡ some a → length (without test s) + 1 ≡ length s)
+          → length (if c then s else b ∷ without test s) + 1 ≡ suc (length s)
       go true h ih = omega arith
       go false h ih = omega (arith, ih h)
 
@@ -87,7 +89,8 @@ module _ {A : Type 0} where
   find-none test [] e = tt
   find-none test (a ∷ s) e = go (test a) refl e (λ h. find-none test s h)
     where
-      go : (c : Bool) → test a ≡ c → (if c then some a else find test s) ≡ none → (find test s ≡ none → All (λ b. test b ≡ false) s) → (test a ≡ false) × All (λ b. test b ≡ false) s
+      go : (c : Bool) → test a ≡ c → (if c then some a else find test s) ≡ none → (find test s ≡ none → All (λ b. test b ≡ false) s)
+          → (test a ≡ false) × All (λ b. test b ≡ false) s
       go true x h ih = contra (cc)
       go false x h ih = (x, ih h)
 
@@ -117,7 +120,8 @@ module _ {A : Type 0} where
         last (c ∷ u) e q = (q .0, last u e (q .1))
 
     -- a change that leaves the place
-    pub ascending-alter : (test : A → Bool) (f : A → A) (s : List A) → ((a b : A) → less a b ≡ true → less (f a) b ≡ true) → ((a b : A) → less b a ≡ true → less b (f a) ≡ true)
+    pub ascending-alter : (test : A → Bool) (f : A → A) (s : List A) → ((a b : A) → less a b ≡ true → less (f a) b ≡ true)
+        → ((a b : A) → less b a ≡ true → less b (f a) ≡ true)
         → Ascending less s → Ascending less (alter test f s)
     ascending-alter test f [] k l p = tt
     ascending-alter test f (b ∷ s) k l p = if-by (Ascending less) (test b) (λ e. (each s (p .0), p .1))
@@ -149,7 +153,8 @@ before-trans (x ∷ a) [] c e f = cc
 before-trans (x ∷ a) (y ∷ b) [] e f = cc
 before-trans (x ∷ a) (y ∷ b) (z ∷ c) e f = go (eqb x y) refl (eqb y z) refl (before-trans a b c) e f
   where
-    go : (i : Bool) → eqb x y ≡ i → (j : Bool) → eqb y z ≡ j → (before a b ≡ true → before b c ≡ true → before a c ≡ true) → (if i then before a b else ltb x y) ≡ true → (if j then before b c else ltb y z) ≡ true → (if eqb x z then before a c else ltb x z) ≡ true
+    go : (i : Bool) → eqb x y ≡ i → (j : Bool) → eqb y z ≡ j → (before a b ≡ true → before b c ≡ true → before a c ≡ true)
+        → (if i then before a b else ltb x y) ≡ true → (if j then before b c else ltb y z) ≡ true → (if eqb x z then before a c else ltb x z) ≡ true
     go true p true q ih e f = let same : x ≡ z = cc (eqb-sound x y p, eqb-sound y z q) in rw (same, eqb-same z) (ih e f)
     go true p false q ih e f = let same : x ≡ y = eqb-sound x y p in rw (same, q) f
     go false p true q ih e f = let same : y ≡ z = eqb-sound y z q in rw (← same, p) e
@@ -165,7 +170,8 @@ before-other [] (y ∷ b) d e = cc
 before-other (x ∷ a) [] d e = refl
 before-other (x ∷ a) (y ∷ b) d e = go (eqb x y) refl (before-other a b) d e
   where
-    go : (i : Bool) → eqb x y ≡ i → (same a b ≡ false → before a b ≡ false → before b a ≡ true) → i && same a b ≡ false → (if i then before a b else ltb x y) ≡ false → (if eqb y x then before b a else ltb y x) ≡ true
+    go : (i : Bool) → eqb x y ≡ i → (same a b ≡ false → before a b ≡ false → before b a ≡ true) → i && same a b ≡ false
+        → (if i then before a b else ltb x y) ≡ false → (if eqb y x then before b a else ltb y x) ≡ true
     go true p ih d e = let z : y ≡ x = cc (eqb-sound x y p) in rw (z, eqb-same x) (ih d e)
     go false p ih d e = apart (eqb y x) refl
       where
@@ -194,11 +200,13 @@ module _ {A : Type 0} (key : A → Bytes) where
       others [] e q = tt
       others (b ∷ u) e q = (rw e (before-apart (key a) (key b) (q .0)), others u e (q .1))
 
-      go : (c : Bool) → same p (key a) ≡ c → All (λ b. same p (key b) ≡ false) (without (λ a. same p (key a)) s) → All (λ b. same p (key b) ≡ false) (if c then s else a ∷ without (λ a. same p (key a)) s)
+      go : (c : Bool) → same p (key a) ≡ c → All (λ b. same p (key b) ≡ false) (without (λ a. same p (key a)) s)
+          → All (λ b. same p (key b) ≡ false) (if c then s else a ∷ without (λ a. same p (key a)) s)
       go true e ih = others s (same-sound p (key a) e) (h .0)
       go false e ih = (e, ih)
 
-  pub key-insert : (a : A) (s : List A) → All (λ b. same (key a) (key b) ≡ false) s → Ascending (λ a b. before (key a) (key b)) s → Ascending (λ a b. before (key a) (key b)) (insert (λ a b. before (key a) (key b)) a s)
+  pub key-insert : (a : A) (s : List A) → All (λ b. same (key a) (key b) ≡ false) s → Ascending (λ a b. before (key a) (key b)) s
+      → Ascending (λ a b. before (key a) (key b)) (insert (λ a b. before (key a) (key b)) a s)
   key-insert a s n h = ascending-insert (λ a b. before (key a) (key b)) (λ x y z. before-trans (key x) (key y) (key z)) a s (others s n) h
     where
       others : (u : List A) → All (λ b. same (key a) (key b) ≡ false) u → All (λ b. before (key a) (key b) ≡ false → before (key b) (key a) ≡ true) u
@@ -208,7 +216,8 @@ module _ {A : Type 0} (key : A → Bytes) where
 -- ---- the table
 
 -- a memory that remembers something is stored, another is dropped
-pub store-by : (P : List Memory → Type 0) (m : Memory) (g : List Memory) → (remembers m ≡ true → P (insert earlierMemory m (without (memoryOf (m .peer)) g))) → P (without (memoryOf (m .peer)) g) → P (store m g)
+pub store-by : (P : List Memory → Type 0) (m : Memory) (g : List Memory) → (remembers m ≡ true → P (insert earlierMemory m (without (memoryOf (m .peer)) g)))
+    → P (without (memoryOf (m .peer)) g) → P (store m g)
 unfolding store
 store-by P m g f x = if-by P (remembers m) f (λ e. x)
 
@@ -239,13 +248,16 @@ legs-below n (g ∷ s) h = (go (ltb (g .link) n) refl, legs-below n s (λ m l. o
 module _ (t : Table) (k : Ordered t) where
   pub ordered-joined : (r : LinkRec) (g : Leg) → r .no ≡ t .next → g .link ≡ t .next → Good t → Ordered (joined r g t)
   ordered-joined r g a b v =
+      let low = all-map (λ q. q .no < t .next) (λ q. earlierLink q r ≡ true) (λ q l. lt-ltb (q .no) (r .no) (omega arith)) (t .links) (k .below) in
+      let up = all-map (λ q. q .no < t .next) (λ q. q .no < t .next + 1) (λ q l. omega arith) (t .links) (k .below) in
       let bound = legs-below (t .next) (t .legs) (λ m l. omega (arith, v .below m l, v .owned .one-owner m)) in
+      let owned = all-map (λ q. q .link < t .next) (λ q. earlierLeg q g ≡ true) (λ q l. lt-ltb (q .link) (g .link) (omega arith)) (t .legs) bound in
       record {
-        links = ascending-append earlierLink r (t .links) (all-map (λ q. q .no < t .next) (λ q. earlierLink q r ≡ true) (λ q l. lt-ltb (q .no) (r .no) (omega arith)) (t .links) (k .below)) (k .links);
-        legs = ascending-append earlierLeg g (t .legs) (all-map (λ q. q .link < t .next) (λ q. earlierLeg q g ≡ true) (λ q l. lt-ltb (q .link) (g .link) (omega arith)) (t .legs) bound) (k .legs);
+        links = ascending-append earlierLink r (t .links) low (k .links);
+        legs = ascending-append earlierLeg g (t .legs) owned (k .legs);
         held = k .held;
         gates = k .gates;
-        below = all-append (λ q. q .no < t .next + 1) (t .links) (r ∷ []) (all-map (λ q. q .no < t .next) (λ q. q .no < t .next + 1) (λ q l. omega arith) (t .links) (k .below)) (omega arith, tt);
+        below = all-append (λ q. q .no < t .next + 1) (t .links) (r ∷ []) up (omega arith, tt);
       }
 
   pub ordered-ends : (g : Leg) → Ordered ((ends g t) .table)
@@ -310,7 +322,8 @@ module _ (t : Table) (k : Ordered t) where
     below = k .below;
   }
 
-  ordered-held : (test : Held → Bool) (f : Held → Held) (m : List Memory) → ((h : Held) → (f h) .peer ≡ h .peer) → Ascending earlierMemory m → Ordered (withGates m (withHeld (alter test f (t .held)) t))
+  ordered-held : (test : Held → Bool) (f : Held → Held) (m : List Memory) → ((h : Held) → (f h) .peer ≡ h .peer) → Ascending earlierMemory m
+      → Ordered (withGates m (withHeld (alter test f (t .held)) t))
   ordered-held test f m e x = record {
     links = k .links;
     legs = k .legs;
@@ -327,7 +340,8 @@ module _ (t : Table) (k : Ordered t) where
   unfolding heard
   ordered-heard now p from = option-by (λ (s : Step). Ordered (s .table)) (heldAt p t) (λ e. k) (λ h e. ordered-held (named p) (heardFrom now from) _ (λ j. refl) (store-ordered _ (t .gates) (k .gates)))
 
-  ordered-installs : (g : Leg) (h : Held) (m : List Memory) → All (λ j. same (h .peer) (j .peer) ≡ false) (t .held) → Ascending earlierMemory m → Ordered (withGates m (installs g h t))
+  ordered-installs : (g : Leg) (h : Held) (m : List Memory) → All (λ j. same (h .peer) (j .peer) ≡ false) (t .held) → Ascending earlierMemory m
+      → Ordered (withGates m (installs g h t))
   ordered-installs g h m n x =
       let y = ordered-hold (g .link) (h .peer) in
       record {
@@ -338,11 +352,13 @@ module _ (t : Table) (k : Ordered t) where
         below = y .below;
       }
 
-  pub ordered-promote : (now : ℕ) (p : Bytes) (a : Answered) (g : Leg) (r : LinkRec) → All (λ j. same p (j .peer) ≡ false) (t .held) → Ordered ((promote now p a g r t) .table)
+  pub ordered-promote : (now : ℕ) (p : Bytes) (a : Answered) (g : Leg) (r : LinkRec) → All (λ j. same p (j .peer) ≡ false) (t .held)
+      → Ordered ((promote now p a g r t) .table)
   unfolding promote
   ordered-promote now p a g r n = ordered-installs g _ _ n (store-ordered _ (t .gates) (k .gates))
 
-  pub ordered-dialed : (now : ℕ) (p : Bytes) (g : Leg) (epoch : ℕ) (from : Pair) (how : Transition) → All (λ j. same p (j .peer) ≡ false) (t .held) → Ordered ((dialed now p g epoch from how t) .table)
+  pub ordered-dialed : (now : ℕ) (p : Bytes) (g : Leg) (epoch : ℕ) (from : Pair) (how : Transition) → All (λ j. same p (j .peer) ≡ false) (t .held)
+      → Ordered ((dialed now p g epoch from how t) .table)
   unfolding dialed
   ordered-dialed now p g epoch from how n = ordered-installs g _ (t .gates) n (k .gates)
 

@@ -118,7 +118,8 @@ module _ (q : Bytes) where
   absent-memory p s d e = option-by (λ (m : Memory). Other q (m .peer)) (find (memoryOf p) s) (λ x. d) (λ m x. all-find (λ m. Other q (m .peer)) (memoryOf p) s m x e)
 
   -- a peer's memory changed and stored
-  absent-changed : (f : Memory → Memory) (p : Bytes) (s : List Memory) → ((m : Memory) → (f m) .peer ≡ m .peer) → Other q p → Elsewhere s → Elsewhere (store (f (memory p s)) s)
+  absent-changed : (f : Memory → Memory) (p : Bytes) (s : List Memory) → ((m : Memory) → (f m) .peer ≡ m .peer) → Other q p → Elsewhere s
+      → Elsewhere (store (f (memory p s)) s)
   absent-changed f p s a d e = absent-store (f (memory p s)) s (rw (a (memory p s)) (absent-memory p s d e)) e
 
 -- ---- a table that needs no more room
@@ -136,7 +137,8 @@ length-hold : (n : ℕ) (p : Bytes) (s : List LinkRec) → length (hold n (APeer
 unfolding hold
 length-hold n p s = length-alter (numbered n) (heldBy (APeer p)) s
 
-length-retireds : (gs : List Leg) (s : List LinkRec) → ((m : ℕ) → tally (λ g. one (onLink m g)) gs ≤ tally (λ r. one (numbered m r)) s) → length (retireds (map (λ g. g .link) gs) s) + length gs ≡ length s
+length-retireds : (gs : List Leg) (s : List LinkRec) → ((m : ℕ) → tally (λ g. one (onLink m g)) gs ≤ tally (λ r. one (numbered m r)) s)
+    → length (retireds (map (λ g. g .link) gs) s) + length gs ≡ length s
 unfolding retireds
 length-retireds [] s h = omega arith
 length-retireds (g ∷ gs) s h =
@@ -188,7 +190,8 @@ module _ (t : Table) (k : Good t) where
   not-leg : (q : Bytes) (n : ℕ) (g : Leg) (p : Bytes) → legAt n t ≡ some g → g .peer ≡ some p → Absent q t → Other q p
   not-leg q n g p e f x = subst (IfAny (Other q)) f (all-find (λ g. IfAny (Other q) (g .peer)) (onLink n) (t .legs) g e (x .legs))
 
-  stays-installs : (g : Leg) (h : Held) (m : List Memory) → legAt (g .link) t ≡ some g → g .peer ≡ some (h .peer) → ((q : Bytes) → Other q (h .peer) → Absent q t → Elsewhere q m) → Stays t (withGates m (installs g h t))
+  stays-installs : (g : Leg) (h : Held) (m : List Memory) → legAt (g .link) t ≡ some g → g .peer ≡ some (h .peer)
+      → ((q : Bytes) → Other q (h .peer) → Absent q t → Elsewhere q m) → Stays t (withGates m (installs g h t))
   stays-installs g h m e f a = record {
     links = omega (arith, length-hold (g .link) (h .peer) (t .links));
     owners = λ v. omega (arith, length-hold (g .link) (h .peer) (t .links), length-less (onLink (g .link)) (t .legs) g e, length-insert earlierHeld h (t .held));
@@ -201,11 +204,13 @@ module _ (t : Table) (k : Good t) where
         };
   }
 
-  pub stays-promote : (now : ℕ) (p : Bytes) (a : Answered) (g : Leg) (r : LinkRec) → legAt (g .link) t ≡ some g → g .peer ≡ some p → Stays t ((promote now p a g r t) .table)
+  pub stays-promote : (now : ℕ) (p : Bytes) (a : Answered) (g : Leg) (r : LinkRec) → legAt (g .link) t ≡ some g → g .peer ≡ some p
+      → Stays t ((promote now p a g r t) .table)
   unfolding promote promoted
   stays-promote now p a g r e f = stays-installs g _ _ e f (λ q d x. absent-changed q (promoted (t .params) now (a .ephemeral)) p (t .gates) (λ m. refl) d (x .gates))
 
-  pub stays-dialed : (now : ℕ) (p : Bytes) (g : Leg) (epoch : ℕ) (from : Pair) (how : Transition) → legAt (g .link) t ≡ some g → g .peer ≡ some p → Stays t ((dialed now p g epoch from how t) .table)
+  pub stays-dialed : (now : ℕ) (p : Bytes) (g : Leg) (epoch : ℕ) (from : Pair) (how : Transition) → legAt (g .link) t ≡ some g → g .peer ≡ some p
+      → Stays t ((dialed now p g epoch from how t) .table)
   unfolding dialed
   stays-dialed now p g epoch from how e f = stays-installs g _ (t .gates) e f (λ q d x. x .gates)
 
@@ -232,7 +237,8 @@ module _ (t : Table) (k : Good t) where
     absent = λ q x. record { held = x .held; legs = all-alter (λ g. IfAny (Other q) (g .peer)) test f (t .legs) (λ g d. rw (a g) d) (x .legs); gates = x .gates };
   }
 
-  stays-held : (test : Held → Bool) (f : Held → Held) (m : List Memory) → ((h : Held) → (f h) .peer ≡ h .peer) → ((q : Bytes) → Absent q t → Elsewhere q m) → Stays t (withGates m (withHeld (alter test f (t .held)) t))
+  stays-held : (test : Held → Bool) (f : Held → Held) (m : List Memory) → ((h : Held) → (f h) .peer ≡ h .peer) → ((q : Bytes) → Absent q t → Elsewhere q m)
+      → Stays t (withGates m (withHeld (alter test f (t .held)) t))
   stays-held test f m a b = record {
     links = omega arith;
     owners = λ v. omega (arith, length-alter test f (t .held));
@@ -273,7 +279,8 @@ module _ (t : Table) (k : Good t) where
       record { links = omega (arith, fewer); owners = λ v. omega (arith, fewer); absent = λ q x. record { held = x .held; legs = tt; gates = x .gates } }
 
 -- a holder goes, and an answer to its peer comes
-pub stays-displaced : (t : Table) → Good t → (now : ℕ) (s : Source) (x : Hello) (h : Held) → heldAt (x .peer) t ≡ some h → Stays t ((answer now x true ((removed now (x .peer) (displaces s) h (stamp now h t)) .table)) .table)
+pub stays-displaced : (t : Table) → Good t → (now : ℕ) (s : Source) (x : Hello) (h : Held) → heldAt (x .peer) t ≡ some h
+    → Stays t ((answer now x true ((removed now (x .peer) (displaces s) h (stamp now h t)) .table)) .table)
 unfolding stamp removed answer answerLeg
 stays-displaced t k now s x h e =
     let a = stays-stamp t k now (x .peer) h e in
@@ -296,7 +303,8 @@ distinct-keys : (s : List Memory) → Ascending earlierMemory s → length (dist
 unfolding distinct
 distinct-keys [] h = refl
 distinct-keys (m ∷ s) h =
-    let apart : any (same (m .peer)) (map (λ k. k .peer) s) ≡ false = any-none (same (m .peer)) (map (λ k. k .peer) s) (all-mapped (λ k. k .peer) (Other (m .peer)) s (all-map (λ k. before (m .peer) (k .peer) ≡ true) (λ k. Other (m .peer) (k .peer)) (λ k. before-apart (m .peer) (k .peer)) s (h .0))) in
+    let others = all-map (λ k. before (m .peer) (k .peer) ≡ true) (λ k. Other (m .peer) (k .peer)) (λ k. before-apart (m .peer) (k .peer)) s (h .0) in
+    let apart : any (same (m .peer)) (map (λ k. k .peer) s) ≡ false = any-none (same (m .peer)) (map (λ k. k .peer) s) (all-mapped (λ k. k .peer) (Other (m .peer)) s others) in
     rw apart (omega (arith, distinct-keys s (h .1)))
 
 any-right : {A : Type 0} (test : A → Bool) (s u : List A) → any test u ≡ true → any test (s ++ u) ≡ true
@@ -315,7 +323,8 @@ unfolding distinct
 any-distinct p [] = refl
 any-distinct p (b ∷ s) = go (any (same b) s) refl (same p b) refl (any-distinct p s)
   where
-    go : (x : Bool) → any (same b) s ≡ x → (y : Bool) → same p b ≡ y → any (same p) (distinct s) ≡ any (same p) s → any (same p) (if x then distinct s else b ∷ distinct s) ≡ y || any (same p) s
+    go : (x : Bool) → any (same b) s ≡ x → (y : Bool) → same p b ≡ y → any (same p) (distinct s) ≡ any (same p) s
+        → any (same p) (if x then distinct s else b ∷ distinct s) ≡ y || any (same p) s
     go true e true f ih = cc (same-sound p b f)
     go true e false f ih = ih
     go false e true f ih = rw f
@@ -329,7 +338,8 @@ module _ (t : Table) (k : Limits t) where
       record { links = omega (arith, s .links, k .links); owners = s .owners (k .owners); places = omega (arith, k .places); gates = omega (arith, k .places, gates-placed u o) }
 
   -- room for one more
-  pub limits-joined : (r : LinkRec) (g : Leg) (p : Bytes) → Ordered (joined r g t) → g .peer ≡ some p → leb 32 (length (t .links)) ≡ false → not (any (same p) (places t)) && leb 32 (length (places t)) ≡ false → Limits (joined r g t)
+  pub limits-joined : (r : LinkRec) (g : Leg) (p : Bytes) → Ordered (joined r g t) → g .peer ≡ some p → leb 32 (length (t .links)) ≡ false
+      → not (any (same p) (places t)) && leb 32 (length (places t)) ≡ false → Limits (joined r g t)
   unfolding places distinct
   limits-joined r g p o a b c = let fit = fits in record {
     links = omega (arith, length-snoc (t .links) r, leb-false 32 (length (t .links)) b);

@@ -140,6 +140,9 @@ pub record Makes (n : ℕ) (s : Step) : Type 0 where
   pub widths : Widths (s .table)
   pub wrote : Wrote n (s .outs)
 
+makes : {n : ℕ} {s : Step} → Widths (s .table) → All OutputFits (s .outs) → tally cost (s .outs) ≤ n → Makes n s
+makes k f c = record { widths = k; wrote = record { fits = f; cost = c } }
+
 makes-still : {n : ℕ} {t : Table} → Widths t → Makes n (still t)
 makes-still k = record { widths = k; wrote = wrote-nothing }
 
@@ -148,7 +151,7 @@ unfolding _▸_
 both f x y h = record { widths = y .widths; wrote = wrote-both (x .wrote) (y .wrote) h }
 
 within : {n : ℕ} (m : ℕ) {s : Step} → m ≤ n → Makes m s → Makes n s
-within m h x = record { widths = x .widths; wrote = record { fits = x .wrote .fits; cost = omega (arith, x .wrote .cost) } }
+within m h x = makes (x .widths) (x .wrote .fits) (omega (arith, x .wrote .cost))
 
 -- ---- what is listed
 
@@ -219,7 +222,8 @@ resends-wrote now (g ∷ s) f = go (option (g .next) false (due now)) (resends-w
     rest : List Leg
     rest = keep (λ g. option (g .next) false (due now)) s
 
-    go : (b : Bool) → Wrote (142 * length s) (map (λ g. Resend (g .link) (g .msg1)) rest) → Wrote (142 * suc (length s)) (map (λ g. Resend (g .link) (g .msg1)) (if b then g ∷ rest else rest))
+    go : (b : Bool) → Wrote (142 * length s) (map (λ g. Resend (g .link) (g .msg1)) rest)
+        → Wrote (142 * suc (length s)) (map (λ g. Resend (g .link) (g .msg1)) (if b then g ∷ rest else rest))
     go true x = record { fits = ((f .0 .link, f .0 .msg1), x .fits); cost = omega (arith, x .cost) }
     go false x = record { fits = x .fits; cost = omega (arith, x .cost) }
 
@@ -302,7 +306,7 @@ R d = Makes 10_240 (d .step)
 module _ (t : Table) (k : Widths t) (l : Limits t) where
   makes-abandon : (n : ℕ) → Q (abandon n t)
   unfolding Q
-  makes-abandon n = let x = spends-abandon t k n in record { widths = x .widths; wrote = record { fits = x .fits; cost = omega (arith, x .cost, l .links, l .owners) } }
+  makes-abandon n = let x = spends-abandon t k n in makes (x .widths) (x .fits) (omega (arith, x .cost, l .links, l .owners))
 
   makes-poll : (now : ℕ) → Q (poll now t)
   unfolding poll _▸_ Q
@@ -337,7 +341,7 @@ module _ (t : Table) (k : Widths t) (l : Limits t) where
       let x = wrote-close-legs in
       let y = spends-removes now ps (u .table) w fit (widths-close-legs t k) in
       let v : List Output = (removes now ps (u .table)) .outs in
-      record { widths = y .widths; wrote = record { fits = all-append OutputFits (u .outs) v (x .fits) (y .fits); cost = omega (arith, tally-append cost (u .outs) v, x .cost, y .cost, l .links, l .owners) } }
+      makes (y .widths) (all-append OutputFits (u .outs) v (x .fits) (y .fits)) (omega (arith, tally-append cost (u .outs) v, x .cost, y .cost, l .links, l .owners))
 
 -- a refused call changes nothing; past refusal 4 the next number has one after it
 makes-numbering : (t : Table) (d : Result) → Widths t → (Word (t .next + 1) → R d) → R (numbering t d)
@@ -354,34 +358,38 @@ module _ (t : Table) (k : Widths t) where
   makes-removed : (now : ℕ) (p : Bytes) (why : Why) (h : Held) → Word now → Exactly 16 p → heldAt p t ≡ some h → Makes 319 (removed now p why h t)
   unfolding removed
   makes-removed now p why h w q e =
-      let x : ListFits 5 (if closes why then retiring (h .link) (t .links) else []) = if-by (ListFits 5) (closes why) (λ e. retiring-fits (h .link) (t .links) (k .links)) (λ e. record { size = omega arith; each = tt }) in
+      let x : ListFits 5 (if closes why then retiring (h .link) (t .links) else []) =
+      if-by (ListFits 5) (closes why) (λ e. retiring-fits (h .link) (t .links) (k .links)) (λ e. record { size = omega arith; each = tt }) in
       let y : Wrote 20 (if retries why then Retry p ∷ [] else []) = if-by (Wrote 20) (retries why) (λ e. record { fits = (q, tt); cost = omega arith }) (λ e. wrote-nothing) in
-      record { widths = widths-removed t k now p why h w e; wrote = record { fits = (q, (((held-fits t k p h e) .link, x), y .fits)); cost = omega (arith, x .size, y .cost) } }
+      makes (widths-removed t k now p why h w e) (q, (((held-fits t k p h e) .link, x), y .fits)) (omega (arith, x .size, y .cost))
 
   makes-ends : (g : Leg) → LegFits g → Makes 286 (ends g t)
   unfolding ends
-  makes-ends g f = let x = retiring-fits (g .link) (t .links) (k .links) in record { widths = widths-ends t k g; wrote = record { fits = (f .lease, ((f .link, x), tt)); cost = omega (arith, x .size) } }
+  makes-ends g f = let x = retiring-fits (g .link) (t .links) (k .links) in makes (widths-ends t k g) (f .lease, ((f .link, x), tt)) (omega (arith, x .size))
 
   makes-answer : (now : ℕ) (x : Hello) (b : Bool) → Word now → Word (t .next + 1) → HelloFits x → Makes 143 (answer now x b t)
   unfolding answer
-  makes-answer now x b w v f = record { widths = widths-answer t k now x b w v f; wrote = record { fits = ((k .next, f .msg2), tt); cost = omega arith } }
+  makes-answer now x b w v f = makes (widths-answer t k now x b w v f) ((k .next, f .msg2), tt) (omega arith)
 
-  makes-promote : (now : ℕ) (p : Bytes) (a : Answered) (g : Leg) (r : LinkRec) → Word now → LegFits g → g .peer ≡ some p → answered (g .kind) ≡ some a → LinkFits r → Makes 108 (promote now p a g r t)
+  makes-promote : (now : ℕ) (p : Bytes) (a : Answered) (g : Leg) (r : LinkRec) → Word now → LegFits g → g .peer ≡ some p → answered (g .kind) ≡ some a
+      → LinkFits r → Makes 108 (promote now p a g r t)
   unfolding promote
   makes-promote now p a g r w f e z y =
       let q : Exactly 16 p = if-any (Exactly 16) (g .peer) p e (f .peer) in
-      record { widths = widths-promote t k now p a g r w f e z y; wrote = record { fits = (record { peer = q; link = f .link; pair = y .setup; lease = f .lease }, (q, tt)); cost = omega arith } }
+      makes (widths-promote t k now p a g r w f e z y) (record { peer = q; link = f .link; pair = y .setup; lease = f .lease }, (q, tt)) (omega arith)
 
-  makes-dialed : (now : ℕ) (p : Bytes) (g : Leg) (epoch : ℕ) (from : Pair) (how : Transition) → Word now → LegFits g → Exactly 16 p → Word epoch → PairFits from → Makes 108 (dialed now p g epoch from how t)
+  makes-dialed : (now : ℕ) (p : Bytes) (g : Leg) (epoch : ℕ) (from : Pair) (how : Transition) → Word now → LegFits g → Exactly 16 p → Word epoch → PairFits from
+      → Makes 108 (dialed now p g epoch from how t)
   unfolding dialed
-  makes-dialed now p g epoch from how w f q v x = record { widths = widths-dialed t k now p g epoch from how w f q v x; wrote = record { fits = (record { peer = q; link = f .link; pair = x; lease = f .lease }, (q, tt)); cost = omega arith } }
+  makes-dialed now p g epoch from how w f q v x =
+      makes (widths-dialed t k now p g epoch from how w f q v x) (record { peer = q; link = f .link; pair = x; lease = f .lease }, (q, tt)) (omega arith)
 
   -- the move holds the leg's link before it retires the holder's
   makes-moveto : (p : Bytes) (g : Leg) (h : Held) (from : Pair) → LegFits g → HeldFits h → Exactly 16 p → PairFits from → Makes 386 (moveto p g h from t)
   unfolding moveto
   makes-moveto p g h from f y q x =
       let z = retiring-fits (h .link) (hold (g .link) (APeer p) (t .links)) (hold-fits (g .link) p (t .links) q (k .links)) in
-      record { widths = widths-moveto t k p g h from f q x; wrote = record { fits = (record { peer = q; link = f .link; pair = x; lease = f .lease }, (q, ((y .link, z), tt))); cost = omega (arith, z .size) } }
+      makes (widths-moveto t k p g h from f q x) (record { peer = q; link = f .link; pair = x; lease = f .lease }, (q, ((y .link, z), tt))) (omega (arith, z .size))
 
   stored-at : (p : Pair) (b : Bytes) (o : Stored) → stored p b t ≡ some o → StoredFits o
   unfolding stored
@@ -389,7 +397,7 @@ module _ (t : Table) (k : Widths t) where
 
   -- an output, with the lease freed
   freed : {o : Output} (n : ℕ) → OutputFits o → cost o ≤ 1_000 → n < 2 ^ 32 → Makes 10_240 (writes (o ∷ Free n ∷ []) t)
-  freed n f c v = record { widths = k; wrote = record { fits = (f, (v, tt)); cost = omega arith } }
+  freed n f c v = makes k (f, (v, tt)) (omega arith)
 
 -- ---- every call
 
@@ -402,7 +410,7 @@ module _ (now : ℕ) (w : Word now) (t : Table) (k : Widths t) where
   unfolding arrived Q
   makes-arrived p b = option-by Q (stored p b t)
       (λ e. record { widths = k; wrote = if-by (Wrote 10_240) (full t) (λ z. record { fits = (tt, tt); cost = omega arith }) (λ z. wrote-nothing) })
-      (λ o e. let x = stored-at t k p b o e in record { widths = k; wrote = record { fits = ((x .link, x .msg2), tt); cost = omega arith } })
+      (λ o e. let x = stored-at t k p b o e in makes k ((x .link, x .msg2), tt) (omega arith))
 
   makes-admit : (s : Source) (x : Hello) → Word (t .next + 1) → HelloFits x → R (admit now s x t)
   unfolding admit admitted stamp removed R
@@ -446,11 +454,11 @@ module _ (now : ℕ) (w : Word now) (t : Table) (k : Widths t) where
       (λ u. if-by Q (own h t || before (t .me) p) (λ y. within 386 (omega arith) (makes-moveto t k p g h from f (held-fits t k p h c) q x))
       (λ y.
       let a = makes-ends t k g f in
-      both {n = 21} (writes (Reset p Keep ∷ [])) a (record { widths = a .widths; wrote = record { fits = (q, tt); cost = omega arith } }) (omega arith)))
+      both {n = 21} (writes (Reset p Keep ∷ [])) a (makes (a .widths) (q, tt) (omega arith)) (omega arith)))
 
   makes-restarted : (p : Bytes) (epoch : ℕ) → Exactly 16 p → Word epoch → Q (restarted p epoch t)
   unfolding restarted Q
-  makes-restarted p epoch q v = option-by Q (heldAt p t) (λ e. makes-still k) (λ h e. record { widths = widths-renewed t k p epoch v; wrote = record { fits = (q, tt); cost = omega arith } })
+  makes-restarted p epoch q v = option-by Q (heldAt p t) (λ e. makes-still k) (λ h e. makes (widths-renewed t k p epoch v) (q, tt) (omega arith))
 
   makes-heard : (p : Bytes) (from : Pair) → Exactly 16 p → PairFits from → Q (heard now p from t)
   unfolding heard Q
@@ -466,11 +474,11 @@ module _ (now : ℕ) (w : Word now) (t : Table) (k : Widths t) where
   makes-release n p kept v f =
       let x : ListFits 1 (releasing n p kept (t .links)) = if-by (ListFits 1) (not (any (numbered n) (t .links)) || kept || inUse p (released n p (t .links)))
       (λ e. record { size = omega arith; each = tt }) (λ e. record { size = omega arith; each = (f, tt) }) in
-      record { widths = widths-release t k n p; wrote = record { fits = ((v, x), tt); cost = omega (arith, x .size) } }
+      makes (widths-release t k n p) ((v, x), tt) (omega (arith, x .size))
 
   makes-dial : (p : Bytes) (to : Pair) (m : Bytes) (l : ℕ) → Word (t .next + 1) → DialFits p to m l → Q (dial now p to m l t)
   unfolding dial Q
-  makes-dial p to m l v f = record { widths = widths-dial t k now p to m l w v (f .peer) (f .pair) (f .msg1) (f .lease); wrote = record { fits = (k .next, tt); cost = omega arith } }
+  makes-dial p to m l v f = makes (widths-dial t k now p to m l w v (f .peer) (f .pair) (f .msg1) (f .lease)) (k .next, tt) (omega arith)
 
   makes-step : (c : Call) → CallFits c → Limits t → R (step now c t)
   unfolding step unsent Q R
@@ -489,7 +497,7 @@ module _ (now : ℕ) (w : Word now) (t : Table) (k : Widths t) where
   makes-step Call.Close f l = makes-close t k l now w
   makes-step (Call.Path n p v) f l = makes-path n p v (f .1)
   makes-step (Call.Release n p b) f l = makes-release n p b (f .0) (f .1)
-  makes-step Call.Wake f l = record { widths = k; wrote = record { fits = (wake-fits (t .legs) (k .legs), tt); cost = omega arith } }
+  makes-step Call.Wake f l = makes k (wake-fits (t .legs) (k .legs), tt) (omega arith)
 
 pub makes-call : (s : Bytes) (buffer : ℕ) (t : Table) → All IsByte s → Widths t → Limits t → Makes 10_240 ((call s buffer t) .step)
 unfolding call R

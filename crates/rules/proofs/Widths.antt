@@ -174,7 +174,8 @@ module _ (t : Table) (k : Widths t) where
     gates = k .gates;
   }
 
-  pub widths-dial : (now : ℕ) (p : Bytes) (to : Pair) (m : Bytes) (l : ℕ) → Word now → Word (t .next + 1) → Exactly 16 p → PairFits to → AtMost 128 m → l < 2 ^ 32 → Widths ((dial now p to m l t) .table)
+  pub widths-dial : (now : ℕ) (p : Bytes) (to : Pair) (m : Bytes) (l : ℕ) → Word now → Word (t .next + 1) → Exactly 16 p → PairFits to → AtMost 128 m
+      → l < 2 ^ 32 → Widths ((dial now p to m l t) .table)
   unfolding dial
   widths-dial now p to m l w v a b d e = widths-joined _ _ v (opened-fits (t .next) to Outbound (k .next) b) (dial-leg-fits (t .params) now w (t .next) p m l (k .next) a d e)
 
@@ -197,7 +198,9 @@ module _ (t : Table) (k : Widths t) where
   parted-fits : (now : ℕ) (h : Held) → Word now → HeldFits h → All (MemoryFits (t .params)) (parted now h t)
   unfolding parted
   parted-fits now h w x = if-by (All (MemoryFits (t .params))) (h .heard) (λ z. k .gates)
-      (λ z. store-fits (t .params) _ (t .gates) (ended-sizes (t .params) now w (k .params) (some (h .epoch)) (h .setup) _ (x .epoch) (x .setup) (sizes-memory (t .params) (h .peer) (t .gates) (x .peer) (k .gates))) (k .gates))
+      (λ z.
+      let y = sizes-memory (t .params) (h .peer) (t .gates) (x .peer) (k .gates) in
+      store-fits (t .params) _ (t .gates) (ended-sizes (t .params) now w (k .params) (some (h .epoch)) (h .setup) _ (x .epoch) (x .setup) y) (k .gates))
 
   pub widths-removed : (now : ℕ) (p : Bytes) (why : Why) (h : Held) → Word now → heldAt p t ≡ some h → Widths ((removed now p why h t) .table)
   unfolding removed
@@ -229,7 +232,8 @@ module _ (t : Table) (k : Widths t) where
     gates = y;
   }
 
-  pub widths-promote : (now : ℕ) (p : Bytes) (a : Answered) (g : Leg) (r : LinkRec) → Word now → LegFits g → g .peer ≡ some p → answered (g .kind) ≡ some a → LinkFits r → Widths ((promote now p a g r t) .table)
+  pub widths-promote : (now : ℕ) (p : Bytes) (a : Answered) (g : Leg) (r : LinkRec) → Word now → LegFits g → g .peer ≡ some p → answered (g .kind) ≡ some a
+      → LinkFits r → Widths ((promote now p a g r t) .table)
   unfolding promote
   widths-promote now p a g r w x e f y =
       let q : Exactly 16 p = if-any (Exactly 16) (g .peer) p e (x .peer) in
@@ -237,7 +241,8 @@ module _ (t : Table) (k : Widths t) where
       widths-installs g _ _ (record { peer = q; link = x .link; epoch = z .epoch; current = y .setup; installed = w; last = tt; setup = z .ephemeral })
       (store-fits (t .params) _ (t .gates) (promoted-sizes (t .params) now (a .ephemeral) _ w (z .ephemeral) (sizes-memory (t .params) p (t .gates) q (k .gates))) (k .gates))
 
-  pub widths-dialed : (now : ℕ) (p : Bytes) (g : Leg) (epoch : ℕ) (from : Pair) (how : Transition) → Word now → LegFits g → Exactly 16 p → Word epoch → PairFits from → Widths ((dialed now p g epoch from how t) .table)
+  pub widths-dialed : (now : ℕ) (p : Bytes) (g : Leg) (epoch : ℕ) (from : Pair) (how : Transition) → Word now → LegFits g → Exactly 16 p → Word epoch
+      → PairFits from → Widths ((dialed now p g epoch from how t) .table)
   unfolding dialed
   widths-dialed now p g epoch from how w x e v f = widths-installs g _ (t .gates) (record { peer = e; link = x .link; epoch = v; current = f; installed = w; last = tt; setup = tt }) (k .gates)
 
@@ -254,7 +259,8 @@ module _ (t : Table) (k : Widths t) where
     gates = k .gates;
   }
 
-  widths-held : (test : Held → Bool) (f : Held → Held) (m : List Memory) → ((h : Held) → HeldFits h → HeldFits (f h)) → All (MemoryFits (t .params)) m → Widths (withGates m (withHeld (alter test f (t .held)) t))
+  widths-held : (test : Held → Bool) (f : Held → Held) (m : List Memory) → ((h : Held) → HeldFits h → HeldFits (f h)) → All (MemoryFits (t .params)) m
+      → Widths (withGates m (withHeld (alter test f (t .held)) t))
   widths-held test f m h x = record { me = k .me; params = k .params; next = k .next; links = k .links; legs = k .legs; held = all-alter HeldFits test f (t .held) h (k .held); gates = x }
 
   pub widths-renewed : (p : Bytes) (epoch : ℕ) → Word epoch → Widths (withHeld (alter (named p) (withEpoch epoch) (t .held)) t)
