@@ -96,14 +96,14 @@ unused n (r ∷ s) h m l = omega (arith, unused n s (h .1) m l, other (eqb m (r 
 pub good : (t : Table) → Bounds t → Good t
 good t b = record { owned = b .owned; below = unused (t .next) (t .links) (b .ordered .below) }
 
--- an empty table
-pub record Empty (t : Table) : Type 0 where
+-- and within its widths
+pub record Measured (t : Table) : Type 0 where
   pub shaped : Shaped t
   pub widths : Widths t
 
-empty-new : (me : Bytes) (first : ℕ) (c : Params) → Exactly 16 me → Word first → ParamsFit c → Empty (newTable me first c)
+measured-new : (me : Bytes) (first : ℕ) (c : Params) → Exactly 16 me → Word first → ParamsFit c → Measured (newTable me first c)
 unfolding newTable places distinct
-empty-new me first c m w p = record {
+measured-new me first c m w p = record {
   shaped = record {
     ordered = record { links = tt; legs = tt; held = tt; gates = tt; below = tt };
     limits = record { links = omega arith; owners = refl; places = omega arith; gates = omega arith };
@@ -113,7 +113,7 @@ empty-new me first c m w p = record {
 
 pub bounds-new : (r : Bytes) (t : Table) → All IsByte r → new r ≡ Made t → Bounds t
 bounds-new r t h e =
-    let y : Empty t = made Empty r t e (λ b z q. let w = begun-fits r b h z in empty-new (b .me) (b .first) (b .params) (w .me) (w .first) (params-fit (b .params) (w .params) q)) in
+    let y : Measured t = made Measured r t e (λ b z q. let w = begun-fits r b h z in measured-new (b .me) (b .first) (b .params) (w .me) (w .first) (params-fit (b .params) (w .params) q)) in
     record { owned = (good-made r t e) .owned; holders = holders-new r t e; ordered = y .shaped .ordered; limits = y .shaped .limits; widths = y .widths }
 
 pub bounds-call : (s : Bytes) (buffer : ℕ) (t : Table) → All IsByte s → Bounds t → Bounds ((call s buffer t) .step .table)
