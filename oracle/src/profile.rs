@@ -1,0 +1,122 @@
+//! What a generated tape is like: how many names it draws from, how its
+//! clock runs, which settings and calls it takes.
+
+use crate::random::Random;
+
+pub const NAMES: [&str; 7] = ["few", "full", "gates", "extreme", "last", "damaged", "mixed"];
+
+#[derive(Clone, Copy, PartialEq, Eq)]
+pub enum Settings {
+    Default,
+    /// Short intervals of a few nanoseconds, small limits.
+    Small,
+    /// 0, 1 and values near the ends.
+    Extreme,
+    /// Long handshakes, so that links and names fill up.
+    Long,
+}
+
+#[derive(Clone, Copy, PartialEq, Eq)]
+pub enum Pace {
+    /// Mostly still or at a time the table waits for.
+    Near,
+    /// Hardly moving.
+    Slow,
+    /// Anywhere, back too.
+    Wild,
+}
+
+#[derive(Clone)]
+pub struct Profile {
+    pub peers: u64,
+    pub pairs: u64,
+    pub digests: u64,
+    pub epochs: u64,
+    pub calls: usize,
+    pub settings: Settings,
+    pub pace: Pace,
+    /// Link numbers start this far below 2^64 - 1.
+    pub near_last: Option<u64>,
+    /// Of 100 records, how many are damaged.
+    pub damage: u64,
+    /// Weights of the calls 1 to 16.
+    pub weights: [u64; 16],
+}
+
+//                     dial ab ar m1 rp se un m2 rs hd rm po cl pa re wk
+const EVEN: [u64; 16] = [10, 3, 4, 14, 6, 14, 2, 10, 2, 6, 6, 5, 1, 8, 5, 4];
+const FEW: [u64; 16] = [14, 2, 4, 14, 5, 16, 2, 14, 2, 5, 5, 4, 1, 7, 4, 3];
+const GATES: [u64; 16] = [4, 1, 2, 26, 14, 24, 1, 4, 1, 6, 14, 2, 0, 1, 1, 1];
+const FULL: [u64; 16] = [26, 1, 3, 26, 3, 18, 1, 6, 1, 1, 5, 1, 0, 9, 2, 1];
+
+/// The profile `name`, varied by the draw.
+pub fn named(name: &str, r: &mut Random) -> Option<Profile> {
+    let even = Profile {
+        peers: 4,
+        pairs: 5,
+        digests: 4,
+        epochs: 3,
+        calls: 120,
+        settings: Settings::Default,
+        pace: Pace::Near,
+        near_last: None,
+        damage: 0,
+        weights: EVEN,
+    };
+    Some(match name {
+        "few" => Profile { peers: 3, pairs: 3, epochs: 2, weights: FEW, settings: either(r), ..even },
+        "full" => full(r, even),
+        "gates" => gates(r, even),
+        "extreme" => Profile { settings: Settings::Extreme, pace: Pace::Wild, ..even },
+        "last" => Profile { near_last: Some(r.below(12)), settings: either(r), ..even },
+        "damaged" => Profile { damage: 4 + r.below(40), settings: either(r), ..even },
+        "mixed" => mixed(r, even)?,
+        _ => return None,
+    })
+}
+
+fn either(r: &mut Random) -> Settings {
+    if r.chance(50) { Settings::Small } else { Settings::Default }
+}
+
+fn full(r: &mut Random, even: Profile) -> Profile {
+    Profile {
+        peers: 33 + r.below(8),
+        pairs: 6 + r.below(40),
+        digests: 40,
+        calls: 320,
+        settings: Settings::Long,
+        pace: Pace::Slow,
+        weights: FULL,
+        ..even
+    }
+}
+
+fn gates(r: &mut Random, even: Profile) -> Profile {
+    Profile {
+        peers: 1 + r.below(2),
+        pairs: 2,
+        digests: 2 + r.below(12),
+        epochs: 1 + r.below(2),
+        calls: 160,
+        settings: either(r),
+        weights: GATES,
+        ..even
+    }
+}
+
+/// One of the others, with some of another's ways.
+fn mixed(r: &mut Random, even: Profile) -> Option<Profile> {
+    let ways = ["few", "full", "gates", "extreme", "last", "damaged"];
+    let name = r.pick(&ways)?;
+    let base = named(name, r)?;
+    let name = r.pick(&ways)?;
+    let other = named(name, r)?;
+    Some(match r.below(5) {
+        0 => Profile { pace: other.pace, ..base },
+        1 => Profile { settings: other.settings, ..base },
+        2 => Profile { weights: other.weights, ..base },
+        3 => Profile { near_last: other.near_last, damage: other.damage, ..base },
+        _ => Profile { peers: 1 + r.below(6), pairs: 1 + r.below(6), weights: even.weights, ..base },
+    })
+}
