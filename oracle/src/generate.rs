@@ -12,7 +12,8 @@ use crate::proto::settle::links::{LinkNo, Pair};
 use crate::profile::{self, Pace, Profile, Settings};
 use crate::random::Random;
 use crate::record::{NEW, VERSION};
-use crate::tape::Tape;
+use crate::proto::settle::output::Output;
+use crate::tape::{Step, Tape};
 use crate::time::Clock;
 use crate::transport::{TransportAddr, TransportId};
 use crate::write::{Writer, framed};
@@ -33,9 +34,9 @@ pub fn tape(name: &str, seed: u64, calls: Option<usize>) -> Option<Vec<u8>> {
         if g.r.chance(g.profile.damage) && (!bytes.is_empty() || g.r.chance(15)) {
             record = damage::record(&record, &mut g.r);
         }
-        g.tape.feed(&record);
+        let steps = g.tape.feed(&record);
         bytes.extend(&record);
-        record = g.call();
+        record = g.next(&steps);
     }
     if g.profile.damage > 0 && g.r.chance(40) {
         let keep = bytes.len() - g.r.index(bytes.len().min(60));
@@ -93,15 +94,17 @@ impl Generator {
         }
         let (silent, resends) = match kind {
             Settings::Extreme => (self.end32(), self.end32()),
+            Settings::Gates => (self.r.below(3) as u32, self.r.below(5) as u32),
             _ => (self.r.below(4) as u32, self.r.below(5) as u32),
         };
         let (replays, counted) = match kind {
-            Settings::Extreme if self.r.chance(12) => (self.r.below(10), self.r.below(10)),
+            Settings::Extreme if self.r.chance(30) => (self.r.below(10), self.r.below(10)),
             _ => (self.r.below(9).min(self.r.below(9)), 1 + self.r.below(8).min(self.r.below(8))),
         };
         let pending = match kind {
-            Settings::Long => self.r.pick(&[1000, 40, 31, 20, 8]).unwrap_or(0),
+            Settings::Long => self.r.pick(&[1000, 1000, 1000, 40, 31, 16]).unwrap_or(0),
             Settings::Extreme => self.r.pick(&[0, 1, 2, 3, u64::MAX]).unwrap_or(0),
+            Settings::Gates => self.r.pick(&[2, 5, 1000, 1000]).unwrap_or(0),
             _ => self.r.pick(&[0, 1, 2, 3, 3, 1000, 1000, u64::MAX]).unwrap_or(0),
         };
         w.u32(silent).u32(resends).byte(replays as u8).byte(counted as u8).u64(pending);
@@ -110,11 +113,13 @@ impl Generator {
     /// One of the seven intervals.
     fn span(&mut self, kind: Settings, i: usize) -> u64 {
         match kind {
-            Settings::Default | Settings::Small if i == 5 => 10 + self.r.below(400),
-            Settings::Default | Settings::Small => self.r.below(30),
             Settings::Long if i == 5 => 1 << 50,
             Settings::Long => self.r.below(1000),
             Settings::Extreme => self.wild(),
+            _ if i == 5 => 10 + self.r.below(400),
+            _ if i == 0 => self.r.below(12),
+            _ if i == 1 => 4 + self.r.below(40),
+            _ => self.r.below(30),
         }
     }
 
@@ -139,6 +144,23 @@ impl Generator {
     }
 
     // ---- calls
+
+    /// The sending of a fresh answer, or any call.
+    fn next(&mut self, steps: &[Step]) -> Vec<u8> {
+        let outputs = steps.iter().flat_map(|s| s.result.iter().flatten());
+        let fresh = outputs.filter_map(|o| match o {
+            Output::Answer { link, stored: false, .. } => Some(*link),
+            _ => None,
+        });
+        match fresh.last() {
+            Some(link) if self.r.chance(self.profile.follow) => {
+                let mut w = self.begin();
+                w.link(link);
+                finish(6, w)
+            }
+            _ => self.call(),
+        }
+    }
 
     fn call(&mut self) -> Vec<u8> {
         self.now = self.tick();
@@ -171,25 +193,25 @@ impl Generator {
     fn dial(&mut self, w: &mut Writer) {
         let (peer, to) = (self.peer(), self.pair());
         w.peer(peer).pair(&to);
-        self.message(w, 4);
+        self.message(w);
         self.take_lease(w);
     }
 
     fn arrived(&mut self, w: &mut Writer) {
         let from = self.answered_pair();
         w.pair(&from);
-        self.message(w, 3);
+        self.message(w);
     }
 
     fn hello(&mut self, w: &mut Writer, flag: bool) {
         let peer = self.peer();
         let from = if self.r.chance(15) { self.answered_pair() } else { self.pair() };
         w.peer(peer).pair(&from);
-        self.message(w, 3);
+        self.message(w);
         let digest = self.digest();
-        let epoch = self.epoch(peer, if flag { 55 } else { 75 });
+        let epoch = self.epoch(peer, if flag { self.profile.same } else { 75 });
         w.run(&digest).run(&epoch);
-        self.message(w, 5);
+        self.message(w);
         self.take_lease(w);
         if flag {
             w.flag(self.r.chance(50));
@@ -261,7 +283,16 @@ impl Generator {
 
     /// A peer of the pool, which has names below and above `me`.
     fn peer(&mut self) -> NodeAddr {
-        peer_no(1 + self.r.below(self.profile.peers))
+        let mut peer = peer_no(1 + self.r.below(self.profile.peers));
+        if self.r.chance(self.profile.fresh) {
+            let places = self.node().map(|n| n.places()).unwrap_or_default();
+            for _ in 0..8 {
+                if places.contains(&peer) {
+                    peer = peer_no(1 + self.r.below(self.profile.peers));
+                }
+            }
+        }
+        peer
     }
 
     fn held_peer(&mut self) -> NodeAddr {
@@ -307,9 +338,9 @@ impl Generator {
         d
     }
 
-    fn message(&mut self, w: &mut Writer, kinds: u64) {
-        let n = self.r.below(kinds) as u8;
-        let length = if self.r.chance(1) { 128 } else { usize::from(n) };
+    fn message(&mut self, w: &mut Writer) {
+        let n = self.r.below(self.profile.messages) as u8;
+        let length = if self.r.chance(1) { 128 } else { usize::from(n % 5) };
         w.message(&vec![n; length]);
     }
 
@@ -429,10 +460,11 @@ impl Wants {
         let mut out = Vec::new();
         for leg in n.table.legs().all() {
             let dial = *leg.kind() == Kind::Dial;
+            let held = leg.peer().is_some_and(|p| n.table.held(&p).is_some());
             let times = match self {
                 Wants::Leg => 1,
                 Wants::Dial => usize::from(dial) * 6 + usize::from(!dial),
-                Wants::Answer => 1 + 3 * usize::from(!dial),
+                Wants::Answer => 1 + usize::from(!dial) * if held { 2 } else { 8 },
                 Wants::AnswerOnly => usize::from(!dial),
             };
             out.extend((0..times).map(|_| leg.link()));

@@ -10,6 +10,8 @@ pub enum Settings {
     Default,
     /// Short intervals of a few nanoseconds, small limits.
     Small,
+    /// The same, with small silent counts and room for answers.
+    Gates,
     /// 0, 1 and values near the ends.
     Extreme,
     /// Long handshakes, so that links and names fill up.
@@ -32,6 +34,14 @@ pub struct Profile {
     pub pairs: u64,
     pub digests: u64,
     pub epochs: u64,
+    /// Of 100 msg1s for a held peer, how many carry its epoch.
+    pub same: u64,
+    /// Of 100 peers drawn, how many are drawn again until one has no place.
+    pub fresh: u64,
+    /// Of 100 fresh answers, how many are sent next, the clock as it is.
+    pub follow: u64,
+    /// How many messages there are.
+    pub messages: u64,
     pub calls: usize,
     pub settings: Settings,
     pub pace: Pace,
@@ -46,8 +56,9 @@ pub struct Profile {
 //                     dial ab ar m1 rp se un m2 rs hd rm po cl pa re wk
 const EVEN: [u64; 16] = [10, 3, 4, 14, 6, 14, 2, 10, 2, 6, 6, 5, 1, 8, 5, 4];
 const FEW: [u64; 16] = [14, 2, 4, 14, 5, 16, 2, 14, 2, 5, 5, 4, 1, 7, 4, 3];
-const GATES: [u64; 16] = [4, 1, 2, 26, 14, 24, 1, 4, 1, 6, 14, 2, 0, 1, 1, 1];
+const GATES: [u64; 16] = [4, 2, 1, 34, 14, 8, 1, 4, 1, 7, 8, 4, 0, 1, 1, 1];
 const FULL: [u64; 16] = [26, 1, 3, 26, 3, 18, 1, 6, 1, 1, 5, 1, 0, 9, 2, 1];
+const NAMED: [u64; 16] = [8, 3, 1, 30, 4, 30, 1, 6, 1, 1, 20, 1, 0, 2, 2, 1];
 
 /// The profile `name`, varied by the draw.
 pub fn named(name: &str, r: &mut Random) -> Option<Profile> {
@@ -56,6 +67,10 @@ pub fn named(name: &str, r: &mut Random) -> Option<Profile> {
         pairs: 5,
         digests: 4,
         epochs: 3,
+        same: 50,
+        fresh: 0,
+        follow: 20,
+        messages: 4,
         calls: 120,
         settings: Settings::Default,
         pace: Pace::Near,
@@ -80,14 +95,16 @@ fn either(r: &mut Random) -> Settings {
 }
 
 fn full(r: &mut Random, even: Profile) -> Profile {
+    let names = r.chance(50);
     Profile {
         peers: 33 + r.below(8),
         pairs: 6 + r.below(40),
         digests: 40,
+        fresh: if names { 70 } else { 20 },
         calls: 320,
         settings: Settings::Long,
         pace: Pace::Slow,
-        weights: FULL,
+        weights: if names { NAMED } else { FULL },
         ..even
     }
 }
@@ -95,11 +112,14 @@ fn full(r: &mut Random, even: Profile) -> Profile {
 fn gates(r: &mut Random, even: Profile) -> Profile {
     Profile {
         peers: 1 + r.below(2),
-        pairs: 2,
+        pairs: 3 + r.below(12),
         digests: 2 + r.below(12),
-        epochs: 1 + r.below(2),
+        epochs: 2 + r.below(2),
+        same: 10 + r.below(30),
+        follow: 60 + r.below(40),
+        messages: 30,
         calls: 160,
-        settings: either(r),
+        settings: if r.chance(60) { Settings::Gates } else { Settings::Default },
         weights: GATES,
         ..even
     }
