@@ -1,0 +1,14 @@
+pub mod Base
+pub mod Std
+pub mod Time
+pub mod Data
+pub mod Links
+pub mod Legs
+pub mod Gates
+pub mod Settle
+pub mod Field
+pub mod Record
+pub mod Output
+pub mod Entry
+pub mod Tape
+pub mod Claim

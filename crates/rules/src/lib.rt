@@ -1,0 +1,1 @@
+// No code: specs/ defines the settle table, proofs/ says what holds of it.
