@@ -12,3 +12,4 @@ pub mod Output
 pub mod Entry
 pub mod Tape
 pub mod Claim
+pub mod Bounds

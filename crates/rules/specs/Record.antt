@@ -68,8 +68,9 @@ pub record Timed : Type 0 where
 unfoldable pub timed : ℕ → Reader Timed
 timed k = bind clock λ now. bind (option (getElem? kinds k) fail (λ f. f)) λ c. give (record { now = now; call = c })
 
--- new: me, first link number, settings
+-- new: its clock, which nothing reads, me, first link number, settings
 pub record Begin : Type 0 where
+  pub now : ℕ
   pub me : Bytes
   pub first : ℕ
   pub params : Params
@@ -99,8 +100,11 @@ settings =
 unfoldable pub form : Reader Params
 form = bind (code (give default ∷ settings ∷ [])) λ p. p
 
+unfoldable pub beginFields : Reader Begin
+beginFields = bind clock λ now. bind peer λ me. bind link λ first. bind form λ c. give (record { now = now; me = me; first = first; params = c })
+
 unfoldable pub begin : ℕ → Reader Begin
-begin k = if eqb k 17 then bind peer (λ me. bind link λ first. bind form λ c. give (record { me = me; first = first; params = c })) else fail
+begin k = if eqb k 17 then beginFields else fail
 
 -- nothing left over
 abbrev pub finished : {A : Type 0} → Option (A × Bytes) → Option A
@@ -175,5 +179,5 @@ unfoldable pub formBytes : Option Params → Bytes
 formBytes none = 0 ∷ []
 formBytes (some c) = 1 ∷ settingsBytes c
 
-unfoldable pub spellNew : Bytes → ℕ → Option Params → Bytes
-spellNew me first form = frame 17 (me ++ digits 8 first ++ formBytes form)
+unfoldable pub spellNew : ℕ → Bytes → ℕ → Option Params → Bytes
+spellNew now me first form = frame 17 (digits 8 now ++ me ++ digits 8 first ++ formBytes form)
