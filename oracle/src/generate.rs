@@ -2,6 +2,8 @@
 //! links, peers, pairs and epochs that are live, and clock readings fall on
 //! and beside the times that decide something.
 
+use std::collections::VecDeque;
+
 use crate::damage;
 use crate::dump::nanos;
 use crate::identity::NodeAddr;
@@ -9,6 +11,7 @@ use crate::node::Node;
 use crate::proto::settle::gates::Epoch;
 use crate::proto::settle::legs::Kind;
 use crate::proto::settle::links::{LinkNo, Pair};
+use crate::plan::{self, Item};
 use crate::profile::{self, Pace, Profile, Settings};
 use crate::random::Random;
 use crate::record::{NEW, VERSION};
@@ -51,12 +54,17 @@ struct Generator {
     tape: Tape,
     now: u64,
     lease: u32,
+    /// A run of calls about one peer, while it lasts.
+    plan: VecDeque<Item>,
+    about: NodeAddr,
+    made: u8,
 }
 
 impl Generator {
     fn new(r: Random, profile: Profile) -> Self {
         let tape = Tape::default();
-        Generator { r, profile, tape, now: 0, lease: 0 }
+        let (plan, about) = (VecDeque::new(), peer_no(1));
+        Generator { r, profile, tape, now: 0, lease: 0, plan, about, made: 0 }
     }
 
     // ---- new
@@ -98,7 +106,8 @@ impl Generator {
             _ => (self.r.below(4) as u32, self.r.below(5) as u32),
         };
         let (replays, counted) = match kind {
-            Settings::Extreme if self.r.chance(30) => (self.r.below(10), self.r.below(10)),
+            Settings::Extreme if self.r.chance(40) => (self.r.below(10), self.r.below(10)),
+            _ if self.r.chance(3) => (self.r.below(12), self.r.below(12)),
             _ => (self.r.below(9).min(self.r.below(9)), 1 + self.r.below(8).min(self.r.below(8))),
         };
         let pending = match kind {
@@ -116,6 +125,9 @@ impl Generator {
             Settings::Long if i == 5 => 1 << 50,
             Settings::Long => self.r.below(1000),
             Settings::Extreme => self.wild(),
+            Settings::Gates if i == 2 => 2 + self.r.below(30),
+            Settings::Gates if i == 3 => self.r.below(200),
+            Settings::Gates if i == 4 => self.r.below(80),
             _ if i == 5 => 10 + self.r.below(400),
             _ if i == 0 => self.r.below(12),
             _ if i == 1 => 4 + self.r.below(40),
@@ -145,8 +157,20 @@ impl Generator {
 
     // ---- calls
 
-    /// The sending of a fresh answer, or any call.
+    /// What is planned, the sending of a fresh answer (or its failure), or any
+    /// call.
     fn next(&mut self, steps: &[Step]) -> Vec<u8> {
+        if self.plan.is_empty() && self.r.chance(self.profile.plan) {
+            self.about = self.peer();
+            if let Some(node) = &self.tape.node {
+                self.plan = plan::draw(node.table.params(), &mut self.r).into();
+            }
+        }
+        while let Some(item) = self.plan.pop_front() {
+            if let Some(record) = self.planned(item) {
+                return record;
+            }
+        }
         let outputs = steps.iter().flat_map(|s| s.result.iter().flatten());
         let fresh = outputs.filter_map(|o| match o {
             Output::Answer { link, stored: false, .. } => Some(*link),
@@ -156,10 +180,72 @@ impl Generator {
             Some(link) if self.r.chance(self.profile.follow) => {
                 let mut w = self.begin();
                 w.link(link);
-                finish(6, w)
+                finish(if self.r.chance(12) { 7 } else { 6 }, w)
             }
             _ => self.call(),
         }
+    }
+
+    /// The record of a plan's item, unless it only moves the clock.
+    fn planned(&mut self, item: Item) -> Option<Vec<u8>> {
+        match item {
+            Item::Wait(by) => {
+                self.now = self.now.saturating_add(by);
+                return None;
+            }
+            Item::Due => {
+                self.now = self.later_due();
+                return None;
+            }
+            _ => {}
+        }
+        let (mut w, about) = (self.begin(), self.about);
+        let kind = match item {
+            Item::Heard => {
+                let from = self.pair();
+                w.peer(about).pair(&from);
+                10
+            }
+            Item::Remove => {
+                w.peer(about).byte(self.r.below(9) as u8);
+                11
+            }
+            Item::Hello { replacement, restart, fresh } => {
+                self.planned_hello(&mut w, restart, fresh);
+                if !replacement {
+                    w.flag(self.r.chance(50));
+                }
+                if replacement { 5 } else { 4 }
+            }
+            Item::Sent | Item::Wait(_) | Item::Due => {
+                let opened = self.node().map_or(0, |n| n.table.links().opened());
+                w.link(LinkNo(opened.wrapping_sub(1)));
+                if self.r.chance(8) {
+                    self.plan.push_front(Item::Sent);
+                    7
+                } else {
+                    6
+                }
+            }
+        };
+        Some(finish(kind, w))
+    }
+
+    /// A msg1 that no stored answer swallows: it comes from a pair of its own.
+    fn planned_hello(&mut self, w: &mut Writer, restart: bool, fresh: bool) {
+        self.made = self.made.wrapping_add(1);
+        let mut digest = self.digest();
+        if fresh {
+            digest[30] = self.made;
+        }
+        let epoch = self.epoch(self.about, 100);
+        let epoch = u64::from_be_bytes(epoch).wrapping_add(restart.into());
+        let from = Pair { transport: TransportId(9), addr: TransportAddr(vec![self.made]) };
+        w.peer(self.about).pair(&from);
+        self.message(w);
+        w.run(&digest).u64(epoch);
+        self.message(w);
+        self.take_lease(w);
     }
 
     fn call(&mut self) -> Vec<u8> {

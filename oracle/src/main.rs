@@ -38,6 +38,7 @@ mod damage;
 mod dump;
 mod generate;
 mod node;
+mod plan;
 mod profile;
 mod random;
 mod record;

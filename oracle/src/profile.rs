@@ -40,6 +40,8 @@ pub struct Profile {
     pub fresh: u64,
     /// Of 100 fresh answers, how many are sent next, the clock as it is.
     pub follow: u64,
+    /// Of 100 calls, how many begin a planned run.
+    pub plan: u64,
     /// How many messages there are.
     pub messages: u64,
     pub calls: usize,
@@ -54,9 +56,10 @@ pub struct Profile {
 }
 
 //                     dial ab ar m1 rp se un m2 rs hd rm po cl pa re wk
-const EVEN: [u64; 16] = [10, 3, 4, 14, 6, 14, 2, 10, 2, 6, 6, 5, 1, 8, 5, 4];
-const FEW: [u64; 16] = [14, 2, 4, 14, 5, 16, 2, 14, 2, 5, 5, 4, 1, 7, 4, 3];
+const EVEN: [u64; 16] = [10, 3, 6, 14, 6, 14, 4, 10, 2, 6, 6, 5, 1, 8, 5, 4];
+const FEW: [u64; 16] = [14, 2, 6, 14, 5, 16, 4, 14, 2, 5, 5, 4, 1, 7, 4, 3];
 const GATES: [u64; 16] = [4, 2, 1, 34, 14, 8, 1, 4, 1, 7, 8, 4, 0, 1, 1, 1];
+const SILENT: [u64; 16] = [2, 2, 1, 40, 10, 8, 1, 2, 1, 1, 24, 4, 0, 1, 1, 1];
 const FULL: [u64; 16] = [26, 1, 3, 26, 3, 18, 1, 6, 1, 1, 5, 1, 0, 9, 2, 1];
 const NAMED: [u64; 16] = [8, 3, 1, 30, 4, 30, 1, 6, 1, 1, 20, 1, 0, 2, 2, 1];
 
@@ -70,6 +73,7 @@ pub fn named(name: &str, r: &mut Random) -> Option<Profile> {
         same: 50,
         fresh: 0,
         follow: 20,
+        plan: 1,
         messages: 4,
         calls: 120,
         settings: Settings::Default,
@@ -82,7 +86,7 @@ pub fn named(name: &str, r: &mut Random) -> Option<Profile> {
         "few" => Profile { peers: 3, pairs: 3, epochs: 2, weights: FEW, settings: either(r), ..even },
         "full" => full(r, even),
         "gates" => gates(r, even),
-        "extreme" => Profile { settings: Settings::Extreme, pace: Pace::Wild, ..even },
+        "extreme" => Profile { settings: Settings::Extreme, pace: Pace::Wild, plan: 4, ..even },
         "last" => Profile { near_last: Some(r.below(12)), settings: either(r), ..even },
         "damaged" => Profile { damage: 4 + r.below(40), settings: either(r), ..even },
         "mixed" => mixed(r, even)?,
@@ -101,6 +105,7 @@ fn full(r: &mut Random, even: Profile) -> Profile {
         pairs: 6 + r.below(40),
         digests: 40,
         fresh: if names { 70 } else { 20 },
+        plan: 0,
         calls: 320,
         settings: Settings::Long,
         pace: Pace::Slow,
@@ -109,7 +114,9 @@ fn full(r: &mut Random, even: Profile) -> Profile {
     }
 }
 
+/// Holders that are heard and restarted, or holders that end unheard.
 fn gates(r: &mut Random, even: Profile) -> Profile {
+    let silent = r.chance(50);
     Profile {
         peers: 1 + r.below(2),
         pairs: 3 + r.below(12),
@@ -117,10 +124,11 @@ fn gates(r: &mut Random, even: Profile) -> Profile {
         epochs: 2 + r.below(2),
         same: 10 + r.below(30),
         follow: 60 + r.below(40),
+        plan: 5,
         messages: 30,
         calls: 160,
         settings: if r.chance(60) { Settings::Gates } else { Settings::Default },
-        weights: GATES,
+        weights: if silent { SILENT } else { GATES },
         ..even
     }
 }

@@ -1,0 +1,80 @@
+//! Runs of calls about one peer that lead up to a judgement of the gates,
+//! with the clock on, just before or just after the time that decides.
+
+use crate::dump::nanos;
+use crate::proto::settle::params::Params;
+use crate::random::Random;
+
+#[derive(Clone, Copy)]
+pub enum Item {
+    /// The clock goes on by so much.
+    Wait(u64),
+    /// The clock goes to one of the next times that decide something.
+    Due,
+    Heard,
+    /// A msg1, or a replacement; at the epoch on record, or at another.
+    Hello { replacement: bool, restart: bool, fresh: bool },
+    /// The last answer is sent.
+    Sent,
+    Remove,
+}
+
+pub fn draw(p: &Params, r: &mut Random) -> Vec<Item> {
+    let mut items = vec![hello(r, false), Item::Sent];
+    match r.below(3) {
+        0 => damp(p, r, &mut items),
+        1 => silence(p, r, &mut items),
+        _ => replays(p, r, &mut items),
+    }
+    items
+}
+
+/// A heard holder gives way, then an unheard one soon after.
+fn damp(p: &Params, r: &mut Random, items: &mut Vec<Item>) {
+    items.push(Item::Heard);
+    items.push(near(nanos(p.interval), r));
+    items.extend([hello(r, true), Item::Sent]);
+    items.push(near(nanos(p.unheard), r));
+    items.push(hello(r, true));
+    items.push(near(nanos(p.interval).saturating_sub(nanos(p.unheard)), r));
+    items.push(hello(r, true));
+}
+
+/// Holders end unheard until msg1s are refused, and once that is over.
+fn silence(p: &Params, r: &mut Random, items: &mut Vec<Item>) {
+    items.push(Item::Remove);
+    for _ in 0..u64::from(p.silent.min(6)) + r.below(3) {
+        items.extend([hello(r, false), Item::Sent, Item::Remove]);
+    }
+    items.push(hello(r, false));
+    for _ in 0..2 {
+        items.extend([Item::Due, hello(r, false), Item::Sent, Item::Remove]);
+    }
+}
+
+/// Unheard holders give way to each other up to the limit and past it.
+fn replays(p: &Params, r: &mut Random, items: &mut Vec<Item>) {
+    for _ in 0..p.replays.min(8) as u64 + r.below(3) {
+        if r.chance(50) {
+            items.push(Item::Remove);
+        } else {
+            items.push(near(nanos(p.unheard), r));
+        }
+        items.extend([hello(r, true), Item::Sent]);
+    }
+    for _ in 0..2 {
+        items.extend([Item::Due, hello(r, true), hello(r, true), Item::Sent]);
+    }
+}
+
+fn hello(r: &mut Random, restart: bool) -> Item {
+    Item::Hello { replacement: r.chance(30), restart: restart && r.chance(80), fresh: r.chance(75) }
+}
+
+fn near(span: u64, r: &mut Random) -> Item {
+    match r.below(5) {
+        0 => Item::Wait(span.saturating_sub(1)),
+        1 => Item::Wait(span.saturating_add(1)),
+        _ => Item::Wait(span),
+    }
+}
