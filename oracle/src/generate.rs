@@ -197,6 +197,10 @@ impl Generator {
                 self.now = self.later_due();
                 return None;
             }
+            Item::Until | Item::Horizon => {
+                self.now = self.silence_end(matches!(item, Item::Horizon));
+                return None;
+            }
             _ => {}
         }
         let (mut w, about) = (self.begin(), self.about);
@@ -217,7 +221,7 @@ impl Generator {
                 }
                 if replacement { 5 } else { 4 }
             }
-            Item::Sent | Item::Wait(_) | Item::Due => {
+            _ => {
                 let opened = self.node().map_or(0, |n| n.table.links().opened());
                 w.link(LinkNo(opened.wrapping_sub(1)));
                 if self.r.chance(8) {
@@ -258,7 +262,8 @@ impl Generator {
             3 => self.arrived(&mut w),
             4 => self.hello(&mut w, true),
             5 => self.hello(&mut w, false),
-            6 | 7 => self.link(&mut w, Wants::Answer),
+            6 => self.link(&mut w, Wants::Answer),
+            7 => self.link(&mut w, Wants::Unsent),
             8 => self.msg2(&mut w),
             9 => self.restarted(&mut w),
             10 => self.heard(&mut w),
@@ -495,6 +500,19 @@ impl Generator {
         }
     }
 
+    /// Where the refusal of the planned peer ends, or its silence is
+    /// forgotten, or just before.
+    fn silence_end(&mut self, horizon: bool) -> u64 {
+        let at = self.node().and_then(|n| {
+            let mut known = n.table.gates().memories().into_iter();
+            let silence = known.find(|m| m.peer == self.about)?.silence?;
+            let after = if horizon { nanos(n.table.params().horizon) } else { 0 };
+            Some(silence.until.unwrap_or(silence.last).0.saturating_add(after))
+        });
+        let at = at.unwrap_or(self.now);
+        if self.r.chance(35) { at.saturating_sub(1) } else { at }
+    }
+
     /// A time that decides something, or one beside it.
     fn due(&mut self) -> u64 {
         let times = self.node().map(times).unwrap_or_default();
@@ -537,18 +555,21 @@ enum Wants {
     Leg,
     Dial,
     Answer,
+    Unsent,
     AnswerOnly,
 }
 
 impl Wants {
-    /// The legs that suit; an answer wanted by sent is now and then a dial.
+    /// The legs that suit, more often the more they suit.
     fn among(self, n: &Node) -> Vec<LinkNo> {
         let mut out = Vec::new();
         for leg in n.table.legs().all() {
             let dial = *leg.kind() == Kind::Dial;
             let held = leg.peer().is_some_and(|p| n.table.held(&p).is_some());
+            let marked = n.table.reply(leg.link()).is_some_and(|a| a.sent);
             let times = match self {
                 Wants::Leg => 1,
+                Wants::Unsent => 1 + usize::from(!dial) + 4 * usize::from(marked),
                 Wants::Dial => usize::from(dial) * 6 + usize::from(!dial),
                 Wants::Answer => 1 + usize::from(!dial) * if held { 2 } else { 8 },
                 Wants::AnswerOnly => usize::from(!dial),

@@ -11,6 +11,10 @@ pub enum Item {
     Wait(u64),
     /// The clock goes to one of the next times that decide something.
     Due,
+    /// The clock goes to the end of the peer's refusal.
+    Until,
+    /// The clock goes to where the peer's silence is forgotten.
+    Horizon,
     Heard,
     /// A msg1, or a replacement; at the epoch on record, or at another.
     Hello { replacement: bool, restart: bool, fresh: bool },
@@ -43,12 +47,14 @@ fn damp(p: &Params, r: &mut Random, items: &mut Vec<Item>) {
 /// Holders end unheard until msg1s are refused, and once that is over.
 fn silence(p: &Params, r: &mut Random, items: &mut Vec<Item>) {
     items.push(Item::Remove);
-    for _ in 0..u64::from(p.silent.min(6)) + r.below(3) {
-        items.extend([hello(r, false), Item::Sent, Item::Remove]);
+    let fresh = 30 + 60 * r.below(2);
+    for _ in 0..u64::from(p.silent.min(6)) + r.below(4) {
+        items.extend([new_peer(r, fresh), Item::Sent, Item::Remove]);
     }
-    items.push(hello(r, false));
-    for _ in 0..2 {
-        items.extend([Item::Due, hello(r, false), Item::Sent, Item::Remove]);
+    items.push(new_peer(r, fresh));
+    for _ in 0..3 {
+        items.push(if r.chance(50) { Item::Until } else { Item::Horizon });
+        items.extend([new_peer(r, fresh), Item::Sent, Item::Remove, new_peer(r, fresh)]);
     }
 }
 
@@ -69,6 +75,10 @@ fn replays(p: &Params, r: &mut Random, items: &mut Vec<Item>) {
 
 fn hello(r: &mut Random, restart: bool) -> Item {
     Item::Hello { replacement: r.chance(30), restart: restart && r.chance(80), fresh: r.chance(75) }
+}
+
+fn new_peer(r: &mut Random, fresh: u64) -> Item {
+    Item::Hello { replacement: r.chance(15), restart: false, fresh: r.chance(fresh) }
 }
 
 fn near(span: u64, r: &mut Random) -> Item {
