@@ -188,23 +188,18 @@ impl Generator {
 
     /// The record of a plan's item, unless it only moves the clock.
     fn planned(&mut self, item: Item) -> Option<Vec<u8>> {
-        match item {
-            Item::Wait(by) => {
-                self.now = self.now.saturating_add(by);
-                return None;
-            }
-            Item::Due => {
-                self.now = self.later_due();
-                return None;
-            }
-            Item::Until | Item::Horizon => {
-                self.now = self.silence_end(matches!(item, Item::Horizon));
-                return None;
-            }
-            _ => {}
+        if let Some(now) = self.planned_time(item) {
+            self.now = now;
+            return None;
         }
         let (mut w, about) = (self.begin(), self.about);
         let kind = match item {
+            Item::Dial => {
+                self.dial(&mut w);
+                1
+            }
+            Item::Poll => 12,
+            Item::Wake => 16,
             Item::Heard => {
                 let from = self.pair();
                 w.peer(about).pair(&from);
@@ -221,18 +216,34 @@ impl Generator {
                 }
                 if replacement { 5 } else { 4 }
             }
-            _ => {
-                let opened = self.node().map_or(0, |n| n.table.links().opened());
-                w.link(LinkNo(opened.wrapping_sub(1)));
-                if self.r.chance(8) {
-                    self.plan.push_front(Item::Sent);
-                    7
-                } else {
-                    6
-                }
-            }
+            _ => self.planned_sent(&mut w),
         };
         Some(finish(kind, w))
+    }
+
+    fn planned_time(&mut self, item: Item) -> Option<u64> {
+        match item {
+            Item::Wait(by) => Some(self.now.saturating_add(by)),
+            Item::Due => Some(self.later_due()),
+            Item::Until => Some(self.silence_end(false)),
+            Item::Horizon => Some(self.silence_end(true)),
+            Item::Woken => {
+                let at = self.node().and_then(|n| n.table.next_wake());
+                Some(at.map_or(self.now, |t| t.0))
+            }
+            _ => None,
+        }
+    }
+
+    /// The last link is sent; now and then that fails first.
+    fn planned_sent(&mut self, w: &mut Writer) -> u8 {
+        let opened = self.node().map_or(0, |n| n.table.links().opened());
+        w.link(LinkNo(opened.wrapping_sub(1)));
+        if self.r.chance(8) {
+            self.plan.push_front(Item::Sent);
+            return 7;
+        }
+        6
     }
 
     /// A msg1 that no stored answer swallows: it comes from a pair of its own.

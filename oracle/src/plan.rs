@@ -1,5 +1,6 @@
-//! Runs of calls about one peer that lead up to a judgement of the gates,
-//! with the clock on, just before or just after the time that decides.
+//! Runs of calls about one peer that lead up to a judgement of the gates or
+//! through a dial's resends, with the clock on, just before or just after the
+//! time that decides.
 
 use crate::dump::nanos;
 use crate::proto::settle::params::Params;
@@ -15,20 +16,41 @@ pub enum Item {
     Until,
     /// The clock goes to where the peer's silence is forgotten.
     Horizon,
+    /// The clock goes to the next wake.
+    Woken,
+    Dial,
+    Poll,
+    Wake,
     Heard,
     /// A msg1, or a replacement; at the epoch on record, or at another.
     Hello { replacement: bool, restart: bool, fresh: bool },
-    /// The last answer is sent.
+    /// The last answer or msg1 is sent.
     Sent,
     Remove,
 }
 
 pub fn draw(p: &Params, r: &mut Random) -> Vec<Item> {
+    if r.chance(25) {
+        return resends(p, r);
+    }
     let mut items = vec![hello(r, false), Item::Sent];
     match r.below(3) {
         0 => damp(p, r, &mut items),
         1 => silence(p, r, &mut items),
         _ => replays(p, r, &mut items),
+    }
+    items
+}
+
+/// Each resend sent when it is due, up to the count and past it.
+fn resends(p: &Params, r: &mut Random) -> Vec<Item> {
+    let mut items = vec![Item::Dial, Item::Wake];
+    for _ in 0..p.resends.min(6) + 1 {
+        items.extend([Item::Woken, Item::Poll]);
+        if r.chance(90) {
+            items.push(Item::Sent);
+        }
+        items.push(Item::Wake);
     }
     items
 }
