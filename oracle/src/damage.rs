@@ -7,7 +7,7 @@ use crate::write::framed;
 /// `record` (with its length bytes) with one damage.
 pub fn record(record: &[u8], r: &mut Random) -> Vec<u8> {
     let mut bytes = record.to_vec();
-    match r.below(12) {
+    match r.below(14) {
         0 | 1 => flip(&mut bytes, 2, r),
         2 => flip(&mut bytes, 0, r),
         3 => shorten(&mut bytes, r),
@@ -18,6 +18,7 @@ pub fn record(record: &[u8], r: &mut Random) -> Vec<u8> {
         8 => bytes = vec![0, 0],
         9 => bytes = vec![0, 1, 1],
         10 => last_byte(&mut bytes, r),
+        11 | 12 => bytes = long_fields(r),
         _ => any_byte(&mut bytes, r),
     }
     bytes
@@ -57,6 +58,19 @@ fn last_byte(bytes: &mut [u8], r: &mut Random) {
 fn any_byte(bytes: &mut [u8], r: &mut Random) {
     let at = 4 + r.index(bytes.len() - 4);
     bytes[at] = r.pick(&[0, 1, 48, 49, 128, 129, 255]).unwrap_or(0);
+}
+
+/// An arrived with fields at their limits or one past them.
+fn long_fields(r: &mut Random) -> Vec<u8> {
+    let (address, message) = (48 + r.below(2) as u8, 127 + r.below(3) as u8);
+    let mut fields = vec![0; 8 + 4];
+    fields.push(address);
+    fields.extend(vec![3; address.into()]);
+    fields.extend([0, message]);
+    fields.extend(vec![4; message.into()]);
+    let mut out = Vec::new();
+    framed(3, &fields, &mut out);
+    out
 }
 
 fn second_new(r: &mut Random) -> Vec<u8> {

@@ -34,7 +34,7 @@ pub fn tape(name: &str, seed: u64, calls: Option<usize>) -> Option<Vec<u8>> {
     let mut bytes = Vec::new();
     let mut record = g.new_record();
     for _ in 0..=calls {
-        if g.r.chance(g.profile.damage) && (!bytes.is_empty() || g.r.chance(15)) {
+        if g.r.chance(g.profile.damage) && (!bytes.is_empty() || g.r.chance(40)) {
             record = damage::record(&record, &mut g.r);
         }
         let steps = g.tape.feed(&record);
@@ -106,8 +106,8 @@ impl Generator {
             _ => (self.r.below(4) as u32, self.r.below(5) as u32),
         };
         let (replays, counted) = match kind {
-            Settings::Extreme if self.r.chance(40) => (self.r.below(10), self.r.below(10)),
-            _ if self.r.chance(3) => (self.r.below(12), self.r.below(12)),
+            Settings::Extreme if self.r.chance(30) => self.limits(),
+            _ if self.r.chance(3) => self.limits(),
             _ => (self.r.below(9).min(self.r.below(9)), 1 + self.r.below(8).min(self.r.below(8))),
         };
         let pending = match kind {
@@ -117,6 +117,12 @@ impl Generator {
             _ => self.r.pick(&[0, 1, 2, 3, 3, 1000, 1000, u64::MAX]).unwrap_or(0),
         };
         w.u32(silent).u32(resends).byte(replays as u8).byte(counted as u8).u64(pending);
+    }
+
+    /// Replays and counted at and past their limits.
+    fn limits(&mut self) -> (u64, u64) {
+        let replays = self.r.pick(&[0, 1, 8, 8, 9, 255]).unwrap_or(0);
+        (replays, self.r.pick(&[0, 0, 1, 8, 8, 9, 255]).unwrap_or(0))
     }
 
     /// One of the seven intervals.

@@ -45,6 +45,9 @@ pub fn draw(p: &Params, r: &mut Random) -> Vec<Item> {
 /// Each resend sent when it is due, up to the count and past it.
 fn resends(p: &Params, r: &mut Random) -> Vec<Item> {
     let mut items = vec![Item::Dial, Item::Wake];
+    if p.resends > 30 {
+        items.extend([Item::Sent; 29]);
+    }
     for _ in 0..p.resends.min(6) + 1 {
         items.extend([Item::Woken, Item::Poll]);
         if r.chance(90) {
