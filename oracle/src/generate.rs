@@ -57,6 +57,7 @@ struct Generator {
     /// A run of calls about one peer, while it lasts.
     plan: VecDeque<Item>,
     about: NodeAddr,
+    epoch_planned: u64,
     made: u8,
 }
 
@@ -64,7 +65,7 @@ impl Generator {
     fn new(r: Random, profile: Profile) -> Self {
         let tape = Tape::default();
         let (plan, about) = (VecDeque::new(), peer_no(1));
-        Generator { r, profile, tape, now: 0, lease: 0, plan, about, made: 0 }
+        Generator { r, profile, tape, now: 0, lease: 0, plan, about, epoch_planned: 0, made: 0 }
     }
 
     // ---- new
@@ -168,6 +169,7 @@ impl Generator {
     fn next(&mut self, steps: &[Step]) -> Vec<u8> {
         if self.plan.is_empty() && self.r.chance(self.profile.plan) {
             self.about = self.peer();
+            self.epoch_planned = self.r.below(self.profile.epochs);
             if let Some(node) = &self.tape.node {
                 self.plan = plan::draw(node.table.params(), &mut self.r).into();
             }
@@ -201,8 +203,14 @@ impl Generator {
         let (mut w, about) = (self.begin(), self.about);
         let kind = match item {
             Item::Dial => {
-                self.dial(&mut w);
+                self.dial(&mut w, about);
                 1
+            }
+            Item::Msg2 => {
+                let same = if self.r.chance(80) { 100 } else { 0 };
+                let (epoch, from) = (self.epoch(about, same), self.pair());
+                w.link(self.last_link()).run(&epoch).pair(&from);
+                8
             }
             Item::Poll => 12,
             Item::Wake => 16,
@@ -243,13 +251,17 @@ impl Generator {
 
     /// The last link is sent; now and then that fails first.
     fn planned_sent(&mut self, w: &mut Writer) -> u8 {
-        let opened = self.node().map_or(0, |n| n.table.links().opened());
-        w.link(LinkNo(opened.wrapping_sub(1)));
-        if self.r.chance(8) {
+        w.link(self.last_link());
+        if self.r.chance(4) {
             self.plan.push_front(Item::Sent);
             return 7;
         }
         6
+    }
+
+    fn last_link(&self) -> LinkNo {
+        let opened = self.node().map_or(0, |n| n.table.links().opened());
+        LinkNo(opened.wrapping_sub(1))
     }
 
     /// A msg1 that no stored answer swallows: it comes from a pair of its own.
@@ -259,8 +271,9 @@ impl Generator {
         if fresh {
             digest[30] = self.made;
         }
-        let epoch = self.epoch(self.about, 100);
-        let epoch = u64::from_be_bytes(epoch).wrapping_add(restart.into());
+        let held = self.node().and_then(|n| Some(n.table.held(&self.about)?.epoch));
+        let epoch = held.map_or(self.epoch_planned, u64::from_be_bytes);
+        let epoch = epoch.wrapping_add(restart.into());
         let from = Pair { transport: TransportId(9), addr: TransportAddr(vec![self.made]) };
         w.peer(self.about).pair(&from);
         self.message(w);
@@ -274,7 +287,10 @@ impl Generator {
         let kind = self.r.weighed(&self.profile.weights) as u8 + 1;
         let mut w = self.begin();
         match kind {
-            1 => self.dial(&mut w),
+            1 => {
+                let peer = self.peer();
+                self.dial(&mut w, peer);
+            }
             2 => self.link(&mut w, Wants::Leg),
             3 => self.arrived(&mut w),
             4 => self.hello(&mut w, true),
@@ -298,8 +314,8 @@ impl Generator {
         w
     }
 
-    fn dial(&mut self, w: &mut Writer) {
-        let (peer, to) = (self.peer(), self.pair());
+    fn dial(&mut self, w: &mut Writer, peer: NodeAddr) {
+        let to = self.pair();
         w.peer(peer).pair(&to);
         self.message(w);
         self.take_lease(w);

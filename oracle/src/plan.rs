@@ -19,6 +19,8 @@ pub enum Item {
     /// The clock goes to the next wake.
     Woken,
     Dial,
+    /// The last dial's msg2, mostly at the epoch on record.
+    Msg2,
     Poll,
     Wake,
     Heard,
@@ -30,13 +32,14 @@ pub enum Item {
 }
 
 pub fn draw(p: &Params, r: &mut Random) -> Vec<Item> {
-    if r.chance(25) {
+    if r.chance(if p.resends > 30 { 60 } else { 20 }) {
         return resends(p, r);
     }
     let mut items = vec![hello(r, false), Item::Sent];
-    match r.below(3) {
+    match r.below(4) {
         0 => damp(p, r, &mut items),
         1 => silence(p, r, &mut items),
+        2 => cross(p, r, &mut items),
         _ => replays(p, r, &mut items),
     }
     items
@@ -46,7 +49,8 @@ pub fn draw(p: &Params, r: &mut Random) -> Vec<Item> {
 fn resends(p: &Params, r: &mut Random) -> Vec<Item> {
     let mut items = vec![Item::Dial, Item::Wake];
     if p.resends > 30 {
-        items.extend([Item::Sent; 29]);
+        items.extend(vec![Item::Sent; 29 + r.index(5)]);
+        items.push(Item::Wake);
     }
     for _ in 0..p.resends.min(6) + 1 {
         items.extend([Item::Woken, Item::Poll]);
@@ -56,6 +60,17 @@ fn resends(p: &Params, r: &mut Random) -> Vec<Item> {
         items.push(Item::Wake);
     }
     items
+}
+
+/// The unheard holder's dial completes: it moves, keeps or is replaced.
+fn cross(p: &Params, r: &mut Random, items: &mut Vec<Item>) {
+    items.extend([Item::Dial, Item::Msg2]);
+    items.push(near(nanos(p.unheard), r));
+    items.push(hello(r, true));
+    if r.chance(50) {
+        items.push(Item::Sent);
+    }
+    items.extend([Item::Remove, new_peer(r, 90)]);
 }
 
 /// A heard holder gives way, then an unheard one soon after.
