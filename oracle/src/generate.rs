@@ -131,6 +131,8 @@ impl Generator {
         match kind {
             Settings::Long if i == 5 => 1 << 50,
             Settings::Long => self.r.below(1000),
+            Settings::Extreme if i == 5 && self.r.chance(40) => u64::MAX >> 1,
+            Settings::Extreme if i == 6 && self.r.chance(40) => 1 + self.r.below(4),
             Settings::Extreme => self.wild(),
             Settings::Gates if i == 2 => 2 + self.r.below(30),
             Settings::Gates if i == 3 => self.r.below(200),
@@ -167,7 +169,9 @@ impl Generator {
     /// What is planned, the sending of a fresh answer (or its failure), or any
     /// call.
     fn next(&mut self, steps: &[Step]) -> Vec<u8> {
-        if self.plan.is_empty() && self.r.chance(self.profile.plan) {
+        let first = self.made == 0 && self.lease == 0 && self.profile.settings == Settings::Extreme;
+        let chance = if first { 50 } else { self.profile.plan };
+        if self.plan.is_empty() && self.r.chance(chance) {
             self.about = self.peer();
             self.epoch_planned = self.r.below(self.profile.epochs);
             if let Some(node) = &self.tape.node {
