@@ -1,16 +1,16 @@
 -- Two lists compared element by element: whether they are the same, and their order, the first difference deciding.
-use Prim.Native.Nat.{ℕ, zero, suc, _+_, _≤_, _<_}
+use Prim.Native.Nat.{ℕ, suc, _+_, _≤_, _<_}
 use mathlib.Core.Path.{_≡_, refl, sym, ap, ap₂, _∙_}
 use mathlib.Core.Bool.{Bool, true, false, _&&_}
-use mathlib.Core.List.{List, [], _∷_, _++_}
+use mathlib.Core.List.{List, [], _∷_}
 use native.Mathlib.Numerals.{add-one}
 use native.Mathlib.Omega.{arith}
-use borrow.Author.Tests.{eqb-true, eq-eqb, ne-eqb, lt-ltb, le-ltb}
+use borrow.Author.Tests.{eqb-true, eq-eqb, ne-eqb}
 use borrow.Author.Needs.{needs}
 use lib.Dec.{eqb, ltb}
 use lib.Seq.{drop-cons, getD-take, length-take-le, take-all}
 use lib.ListN.{length, take, drop, getD, drop-of-length-le}
-use Rattle.rules.specs.Base.{same, if_then_else_}
+use Rattle.rules.specs.Base.{same}
 use Rattle.rules.specs.Std.{before}
 use Rattle.laws.specs.Shift.{Kept}
 

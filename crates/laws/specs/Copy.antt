@@ -1,6 +1,6 @@
 -- A loop that copies the first n elements of src over the front of dst.
 use Prim.Native.Nat.{ℕ, zero, suc, _+_, _-_, _≤_, _<_}
-use mathlib.Core.Path.{_≡_, refl, sym, ap, _∙_}
+use mathlib.Core.Path.{_≡_, refl, ap}
 use mathlib.Core.List.{List, [], _∷_, _++_, append-nil}
 use mathlib.Core.Bool.{true, false}
 use native.Mathlib.Nat.{sub-zero, zero-sub, suc-sub-suc}
@@ -10,8 +10,8 @@ use borrow.Author.Needs.{needs}
 use borrow.Author.Tests.{le-leb, lt-leb}
 use lib.Seq.{getD-take, length-take-le, take-at, drop-at, take-all}
 use lib.ListN.{length, take, drop, getD, set, replicate, length-replicate, length-append, length-take, length-drop, drop-of-length-le}
-use Rattle.laws.specs.Shift.{blend, blend-more, Kept, all-replicate}
-use Rattle.rules.specs.Base.{All, if_then_else_}
+use Rattle.laws.specs.Shift.{blend, blend-more, Kept}
+use Rattle.rules.specs.Base.{All}
 use Rattle.rules.specs.Field.{bytes}
 use Rattle.laws.specs.Parse.{Told}
 

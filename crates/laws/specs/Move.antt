@@ -1,16 +1,14 @@
 -- Loops that move bytes of one slice down or up, clear them, and read numbers and byte strings where they stand.
-use Prim.Native.Nat.{ℕ, zero, suc, _+_, _-_, _*_, _/_, _%_, _≤_, _<_}
+use Prim.Native.Nat.{ℕ, zero, suc, _+_, _-_, _≤_, _<_}
 use mathlib.Core.Path.{_≡_, refl, sym, ap, _∙_}
 use mathlib.Core.List.{List, [], _∷_, _++_}
-use native.Mathlib.Nat.{not-suc-le-zero, add-zero, add-assoc}
-use native.Mathlib.Numerals.{add-one}
+use native.Mathlib.Nat.{not-suc-le-zero, add-zero}
 use native.Mathlib.Omega.{arith}
 use borrow.Author.Needs.{needs}
-use lib.Seq.{drop-drop, drop-set-lt, take-set-le, take-set-lt, getD-drop, getD-take, take-suc, drop-cons, take-take, length-take-le, take-all}
+use lib.Seq.{drop-drop, drop-set-lt, take-set-le, getD-drop, getD-take, take-suc, take-take, length-take-le, take-all}
 use lib.ListN.{length, take, drop, getD, set, replicate, length-drop, length-set, length-replicate, getD-replicate}
-use Rattle.laws.specs.Splice.{splice, splice-none, splice-snoc, Pasting, pasting-start, pasting-turn, pasting-end, pasting-all, Wrote}
-use Rattle.laws.specs.Copy.{Copying, copying-start, copying-turn, copied-kept, copied-view, bytes-read}
-use Rattle.rules.specs.Field.{more}
+use Rattle.laws.specs.Splice.{splice, splice-none, splice-snoc, Pasting, pasting-start, pasting-turn, pasting-end, pasting-all}
+use Rattle.laws.specs.Copy.{Copying, copying-start, copying-turn, copied-view}
 use lib.Dec.{eqb, lit<}
 
 -- ---- down: n bytes from `from` to `to`, the first byte first

@@ -1,22 +1,22 @@
 -- Parsers: what stands at the front of a list of bytes, and the rest; none where the bytes are too few or wrong.
-use Prim.Native.Nat.{ℕ, zero, suc, _+_, _-_, _*_, _^_, _≤_, _<_}
-use mathlib.Core.Path.{_≡_, refl, sym, ap, _∙_}
+use Prim.Native.Nat.{ℕ, _+_, _-_, _*_, _^_, _≤_, _<_}
+use mathlib.Core.Path.{_≡_, refl, _∙_}
 use mathlib.Core.Bool.{Bool, true, false, not}
 use mathlib.Core.Option.{Option, none, some}
-use mathlib.Core.List.{List, [], _∷_, _++_}
+use mathlib.Core.List.{List}
 use native.Mathlib.Nat.{lt-of-lt-of-le, one-le-pow, pow-le-pow-right, pow-suc}
 use native.Mathlib.Numerals.{add-one}
 use native.Mathlib.Omega.{arith}
 use borrow.Author.Needs.{needs}
 use borrow.Author.Tests.{le-leb, lt-leb, not-true, not-false}
-use lib.Dec.{leb, lit<}
+use lib.Dec.{lit<}
 use lib.Arith.{digits-lt}
 use mir.Syntax.{w8, w64}
 use mir.Val.{Fits}
 use lib.Seq.{take-all}
-use lib.ListN.{length, take, drop, getD, length-drop}
 use Rattle.rules.specs.Base.{if_then_else_}
-use Rattle.rules.specs.Field.{Reader, bind, give, more, bytes, upTo, number}
+use lib.ListN.{length, take, drop, getD, length-drop}
+use Rattle.rules.specs.Field.{more, bytes, upTo, number}
 use Rattle.laws.specs.Beside.{taken-cons, taken-end}
 
 -- what a reader that answers ok says of a parser's answer o on s: where ok, v stands in the first n bytes of s, and else there is none

@@ -1,15 +1,14 @@
 -- What was written is read back.
-use Prim.Native.Nat.{ℕ, zero, suc, _+_, _*_, _/_, _%_, _^_, _≤_, _<_}
-use mathlib.Core.Path.{_≡_, refl, sym, ap, _∙_}
-use mathlib.Core.Option.{Option, none, some}
+use Prim.Native.Nat.{ℕ, zero, suc, _+_, _*_, _/_, _%_, _^_, _<_}
+use mathlib.Core.Path.{_≡_, refl}
+use mathlib.Core.Option.{some}
 use mathlib.Core.List.{List, [], _∷_, _++_}
-use native.Mathlib.Nat.{pow-suc, div-lt-iff-lt-mul, div-add-mod'}
+use native.Mathlib.Nat.{pow-suc, div-lt-iff-lt-mul}
 use native.Mathlib.Omega.{arith}
 use borrow.Author.Tests.{le-leb}
 use lib.Dec.{lit<}
 use lib.Seq.{take-at, drop-at}
-use lib.ListN.{length, take, drop, length-append}
-use Rattle.rules.specs.Base.{if_then_else_}
+use lib.ListN.{length, length-append}
 use Rattle.rules.specs.Field.{more, number, bytes, digits}
 use Rattle.laws.specs.Splice.{length-digits}
 

@@ -1,18 +1,17 @@
 -- The first element of a list that passes a test: `scan t i xs` is its place, counted from i.
 -- A loop that looks for it keeps the equation "the answer is the answer of what is left": scan t 0 xs ≡ scan t i (drop i xs).
-use Prim.Native.Nat.{ℕ, zero, suc, _+_, _≤_, _<_}
-use mathlib.Core.Path.{_≡_, refl, sym, ap, _∙_}
+use Prim.Native.Nat.{ℕ, suc, _+_, _≤_, _<_}
+use mathlib.Core.Path.{_≡_, refl, _∙_}
 use mathlib.Core.Bool.{Bool, true, false}
 use mathlib.Core.Option.{Option, none, some}
-use mathlib.Core.List.{List, [], _∷_, _++_, map}
-use native.Mathlib.Nat.{not-suc-le-zero, le-of-suc-le-suc}
+use mathlib.Core.List.{List, [], _∷_, map}
 use native.Mathlib.Numerals.{add-one}
 use native.Mathlib.Omega.{arith}
 use borrow.Author.Needs.{needs}
 use borrow.Author.Tests.{eq-eqb, ne-eqb}
 use lib.Dec.{eqb}
 use Rattle.laws.specs.Shift.{Kept}
-use lib.Seq.{drop-cons, getD-take, length-take-le}
+use lib.Seq.{drop-cons, getD-take}
 use Rattle.rules.specs.Base.{if_then_else_}
 use lib.ListN.{length, take, drop, getD, length-map, List·getD-map, drop-of-length-le, length-take}
 

@@ -1,13 +1,13 @@
 -- A list that a loop overwrites from the front, element by element: `blend k ys xs` has its first k elements from ys and the others from xs.
 -- What a removal, an insertion and a push do to the places of a map is a blend towards `erase at xs`, `insert at e xs`.
-use Prim.Native.Nat.{ℕ, zero, suc, _+_, _-_, _≤_, _<_, zero-le, suc-le-suc}
-use mathlib.Core.Path.{_≡_, refl, sym, ap, _∙_, subst}
-use mathlib.Core.List.{List, [], _∷_, _++_, map, append-assoc, map-append}
-use native.Mathlib.Nat.{not-suc-le-zero, le-of-suc-le-suc, le-of-lt}
+use Prim.Native.Nat.{ℕ, zero, suc, _+_, _-_, _≤_, _<_}
+use mathlib.Core.Path.{_≡_, refl, sym, ap, _∙_}
+use mathlib.Core.List.{List, [], _∷_, _++_, map, map-append}
+use native.Mathlib.Nat.{not-suc-le-zero, le-of-suc-le-suc}
 use native.Mathlib.Numerals.{add-one}
 use native.Mathlib.Omega.{arith}
 use borrow.Author.Needs.{needs}
-use lib.Seq.{take-set-lt, getD-take, drop-drop, getD-at, take-set-le, drop-set-lt, take-suc-set, set-split, take-at, drop-at, length-take-le, take-append-le, take-take}
+use lib.Seq.{take-set-lt, getD-take, drop-drop, getD-at, take-set-le, drop-set-lt, take-suc-set, take-at, drop-at, length-take-le}
 use Rattle.rules.specs.Base.{All}
 use lib.ListN.{length, take, drop, getD, set, replicate, length-append, length-take, length-drop, length-set, length-map, List·getD-map, take-append-drop}
 

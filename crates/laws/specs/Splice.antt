@@ -1,12 +1,12 @@
 -- Writers: bytes put over a list at a place, and what several of them in a row make.
-use Prim.Native.Nat.{ℕ, zero, suc, _+_, _-_, _*_, _/_, _%_, _^_, _≤_, _<_}
+use Prim.Native.Nat.{ℕ, zero, suc, _+_, _-_, _/_, _%_, _≤_, _<_}
 use mathlib.Core.Path.{_≡_, refl, sym, ap, _∙_}
-use mathlib.Core.List.{List, [], _∷_, _++_, append-assoc, append-nil}
-use native.Mathlib.Nat.{add-zero, add-assoc, not-suc-le-zero, le-of-suc-le-suc, zero-add}
+use mathlib.Core.List.{List, [], _∷_, _++_, append-assoc}
+use native.Mathlib.Nat.{add-zero, add-assoc, not-suc-le-zero}
 use native.Mathlib.Numerals.{add-one}
 use native.Mathlib.Omega.{arith}
 use borrow.Author.Needs.{needs}
-use lib.Seq.{take-at, drop-at, drop-drop, length-take-le, set-split, drop-append-add, take-append-add, getD-take, take-append-le, take-all, take-set-le}
+use lib.Seq.{take-at, drop-at, drop-drop, length-take-le, set-split, take-all, take-set-le}
 use lib.ListN.{length, take, drop, getD, set, length-append, length-take, length-drop, length-set, take-append-drop}
 use Rattle.rules.specs.Field.{digits}
 use Rattle.laws.specs.Shift.{drop-set, Kept}
