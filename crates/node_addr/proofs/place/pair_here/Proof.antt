@@ -38,7 +38,7 @@ returns-3 c =
     (search needs)
     (e .before .before .get-byte .ensures)
     (search needs)
-    (c .same-words .ensures)
+    (c .same-run .ensures)
 
 pub pair-here-spec : {M : Type 1} → statement M
 pair-here-spec =
