@@ -68,5 +68,8 @@ module _ {s : Bytes} {i : ℕ} (f : FitHeld s) (h : i < heldCount s) where
   pub current-here : pairOf (take 53 (drop (i * 136 + 83) s)) ≡ heldAt s i .current
   current-here = ap (λ (k : Held). k .current) (held-here s i f h)
 
+  pub current-beside : {r : Bool} (p : Pair) → r ≡ samePair p (pairOf (take 53 (drop (i * 136 + 83) s))) → r ≡ samePair p (heldAt s i .current)
+  current-beside p e = e ∙ ap (samePair p) current-here
+
   pub current-cell : PairCell (take 53 (drop (i * 136 + 83) s))
   current-cell = fit-here s i f h .current

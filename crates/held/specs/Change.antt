@@ -11,13 +11,11 @@ use lib.Seq.{set-set, set-getD, getD-set-same}
 use lib.ListN.{length, getD, set, length-set}
 use mir.Syntax.{w32, w64}
 use mir.Val.{Fits}
-use Rattle.rules.specs.Base.{Bytes, same, alter}
+use Rattle.rules.specs.Base.{Bytes, same}
 use Rattle.rules.specs.Field.{digits}
 use Rattle.rules.specs.Data.{Pair, samePair, Held}
-use Rattle.rules.specs.Settle.{named, withEpoch}
+use Rattle.rules.specs.Settle.{withEpoch}
 use Rattle.laws.specs.Beside.{same-true}
-use Rattle.laws.specs.Scan.{scan}
-use Rattle.laws.specs.Place.{alter-at, alter-nowhere}
 use Rattle.laws.specs.Splice.{splice, splice-splice, length-splice, length-digits, Wrote}
 use Rattle.laws.specs.Round.{more-digits}
 use Rattle.laws.specs.Fields.{cuts, cuts-set, sum}
@@ -151,11 +149,3 @@ pair-is p q e = go (eqb (p .transport) (q .transport)) refl e
 pub current-kept : {s : Bytes} (i : ℕ) (p : Pair) → FitHeld s → samePair p (heldAt s i .current) ≡ true → Changed (withCurrent p) i s s
 current-kept {s} i p f e =
     record { fit = f; count = refl; is = sym (rw (pair-is p (heldAt s i .current) e) (set-getD (viewHeld s) i noHeld)) }
-
--- ---- by peer: what was changed at the place that a search found
-module _ (g : Held → Held) (p s : Bytes) {l : Bytes} {i : ℕ} where
-  pub altered : scan (named p) 0 (viewHeld s) ≡ some i → viewHeld l ≡ set (viewHeld s) i (g (heldAt s i)) → viewHeld l ≡ alter (named p) g (viewHeld s)
-  altered e q = q ∙ sym (alter-at (named p) (viewHeld s) i e g noHeld)
-
-pub unaltered : (g : Held → Held) (p s : Bytes) → scan (named p) 0 (viewHeld s) ≡ none → viewHeld s ≡ alter (named p) g (viewHeld s)
-unaltered g p s e = sym (alter-nowhere (named p) (viewHeld s) e g)

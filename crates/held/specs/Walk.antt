@@ -1,18 +1,18 @@
--- Loops over the held peers: the search for a peer, and for the place where one belongs.
+-- Loops over the held peers: the search for a peer, and for the place where one belongs; what a place found says of the list.
 use mathlib.Core.Path.{_≡_, refl, sym, ap, _∙_}
 use mathlib.Core.Bool.{Bool, true, false}
 use mathlib.Core.Option.{Option, none, some}
 use mathlib.Core.List.{List, []}
 use Prim.Native.Nat.{ℕ, _+_, _≤_, _<_}
 use native.Mathlib.Omega.{arith}
-use lib.ListN.{length}
-use Rattle.rules.specs.Base.{option, Bytes}
+use lib.ListN.{length, set}
+use Rattle.rules.specs.Base.{option, Bytes, without, alter}
 use Rattle.rules.specs.Std as std
 use Rattle.rules.specs.Data.{Held}
-use Rattle.rules.specs.Settle.{earlierHeld}
-use Rattle.laws.specs.Shift.{shown, insert}
-use Rattle.laws.specs.Scan.{scan, Ahead, scan-hit, scan-skip, scan-end, length-shows}
-use Rattle.laws.specs.Place.{insert-at, insert-last, insert-end}
+use Rattle.rules.specs.Settle.{named, earlierHeld}
+use Rattle.laws.specs.Shift.{shown, erase, insert}
+use Rattle.laws.specs.Scan.{scan, Ahead, scan-hit, scan-skip, scan-end, scan-within, length-shows}
+use Rattle.laws.specs.Place.{without-at, without-nowhere, alter-at, alter-nowhere, insert-at, insert-last, insert-end}
 use Rattle.laws.specs.Chunk.{chunks, length-chunks}
 use Rattle.held.specs.View.{heldOf, viewHeld, FitHeld, heldCount, noHeld, heldAt}
 use Rattle.held.specs.At.{precedes}
@@ -60,3 +60,22 @@ slot-insert {s} {r} h a f = go (scan (earlierHeld h) 0 (viewHeld s)) refl (a .is
     go : (o : Option ℕ) → scan (earlierHeld h) 0 (viewHeld s) ≡ o → r ≡ option o (heldCount s) (λ i. i) → std.insert earlierHeld h (viewHeld s) ≡ insert r h (viewHeld s)
     go none e q = insert-last earlierHeld h (viewHeld s) e ∙ sym (insert-end r h (viewHeld s) (q ∙ sym (count-is f)))
     go (some i) e q = insert-at earlierHeld h (viewHeld s) i e ∙ ap (λ (k : ℕ). insert k h (viewHeld s)) (sym q)
+
+-- ---- what a place found by a peer's address says of the rules' lists
+module _ (p : Bytes) where
+  pub found-within : {s : Bytes} {i : ℕ} → FitHeld s → scan (named p) 0 (viewHeld s) ≡ some i → i < heldCount s
+  found-within {s} {i} f e = scan-within (named p) heldOf (heldCount s) (chunks 136 32 s) i (omega arith) e
+
+  pub dropped : {s l : Bytes} {i : ℕ} → FitHeld s → FitHeld l → scan (named p) 0 (viewHeld s) ≡ some i → viewHeld l ≡ erase i (viewHeld s)
+      → FitHeld l × (viewHeld l ≡ without (named p) (viewHeld s))
+  dropped {s} {l} {i} f k e q = (k, q ∙ sym (without-at (named p) (viewHeld s) i e))
+
+  pub none-dropped : {s : Bytes} → FitHeld s → scan (named p) 0 (viewHeld s) ≡ none → FitHeld s × (viewHeld s ≡ without (named p) (viewHeld s))
+  none-dropped {s} f e = (f, sym (without-nowhere (named p) (viewHeld s) e))
+
+  pub altered : (g : Held → Held) {s l : Bytes} {i : ℕ} → FitHeld s → FitHeld l → scan (named p) 0 (viewHeld s) ≡ some i → viewHeld l ≡ set (viewHeld s) i (g (heldAt s i))
+      → FitHeld l × (viewHeld l ≡ alter (named p) g (viewHeld s))
+  altered g {s} {l} {i} f k e q = (k, q ∙ sym (alter-at (named p) (viewHeld s) i e g noHeld))
+
+  pub none-altered : (g : Held → Held) {s : Bytes} → FitHeld s → scan (named p) 0 (viewHeld s) ≡ none → FitHeld s × (viewHeld s ≡ alter (named p) g (viewHeld s))
+  none-altered g {s} f e = (f, sym (alter-nowhere (named p) (viewHeld s) e g))

@@ -1,21 +1,11 @@
+use Rattle.held.specs.At.{dated-here}
 use borrow.Author.Needs.{needs}
+use mathlib.Core.Path.{_∙_}
 use Rattle.held.proofs.at.dated_at.Statement.{statement}
 use Rattle.held.proofs.at.dated_at.Tie as tie
-use Rattle.held.proofs.at.dated_at.Reads as reads
-use Rattle.held.proofs.at.dated_at.Lts as lts
-use Rattle.held.proofs.cell.get_flag.Reads as get-flag-reads
-
-mul-get-flag : tie.Need-mul-get-flag
-mul-get-flag c = search needs
-
-add-get-flag : tie.Need-add-get-flag
-add-get-flag c = search needs
-
-get-flag-requires : tie.Need-get-flag-requires
-get-flag-requires c κs = search needs
 
 returns : tie.Need-returns
-returns c = search needs
+returns c = c .get-flag .ensures ∙ dated-here (c .before .before .pre .0) (c .before .before .pre .1)
 
 pub dated-at-spec : {M : Type 1} → statement M
-dated-at-spec = tie.close (tie.spec mul-get-flag add-get-flag get-flag-requires returns)
+dated-at-spec = tie.close (tie.spec (λ c. search needs) (λ c. search needs) (λ c κs. search needs) returns)

@@ -1,18 +1,11 @@
+use Rattle.held.specs.At.{peer-here}
 use borrow.Author.Needs.{needs}
+use mathlib.Core.Path.{_∙_}
 use Rattle.held.proofs.at.peer_at.Statement.{statement}
 use Rattle.held.proofs.at.peer_at.Tie as tie
-use Rattle.held.proofs.at.peer_at.Reads as reads
-use Rattle.held.proofs.at.peer_at.Lts as lts
-use Rattle.node_addr.proofs.place.load_node.Reads as load-node-reads
-
-mul-load-node : tie.Need-mul-load-node
-mul-load-node c = search needs
-
-load-node-requires : tie.Need-load-node-requires
-load-node-requires c κs = search needs
 
 returns : tie.Need-returns
-returns c = search needs
+returns c = c .load-node .ensures ∙ peer-here (c .before .before .pre .0) (c .before .before .pre .1)
 
 pub peer-at-spec : {M : Type 1} → statement M
-peer-at-spec = tie.close (tie.spec mul-load-node load-node-requires returns)
+peer-at-spec = tie.close (tie.spec (λ c. search needs) (λ c κs. search needs) returns)

@@ -1,14 +1,10 @@
+use Rattle.held.specs.Entry.{flag-here}
 use borrow.Author.Needs.{needs}
 use Rattle.held.proofs.cell.get_flag.Statement.{statement}
 use Rattle.held.proofs.cell.get_flag.Tie as tie
-use Rattle.held.proofs.cell.get_flag.Reads as reads
-use Rattle.held.proofs.cell.get_flag.Lts as lts
-
-shared-slice-read-result : tie.Need-shared-slice-read-result
-shared-slice-read-result c = search needs
 
 returns : tie.Need-returns
-returns c = search needs
+returns c = flag-here (c .before .args .s .now) (c .before .args .at)
 
 pub get-flag-spec : {M : Type 1} → statement M
-get-flag-spec = tie.close (tie.spec shared-slice-read-result returns)
+get-flag-spec = tie.close (tie.spec (λ c. search needs) returns)

@@ -1,24 +1,10 @@
+use Rattle.held.specs.Change.{epoch-changed}
 use borrow.Author.Needs.{needs}
 use Rattle.held.proofs.change.set_epoch.Statement.{statement}
 use Rattle.held.proofs.change.set_epoch.Tie as tie
-use Rattle.held.proofs.change.set_epoch.Reads as reads
-use Rattle.held.proofs.change.set_epoch.Lts as lts
-use Rattle.memory.proofs.write.put_be.Reads as put-be-reads
-
-mul-put-be : tie.Need-mul-put-be
-mul-put-be c = search needs
-
-add-put-be : tie.Need-add-put-be
-add-put-be c = search needs
-
-put-be-requires : tie.Need-put-be-requires
-put-be-requires c κs = search needs
-
-same-length : tie.Need-same-length
-same-length c = search needs
 
 returns : tie.Need-returns
-returns c = search needs
+returns c = epoch-changed _ (c .before .before .put-be .ensures) (search needs) (search needs) (search needs)
 
 pub set-epoch-spec : {M : Type 1} → statement M
-set-epoch-spec = tie.close (tie.spec mul-put-be add-put-be put-be-requires same-length returns)
+set-epoch-spec = tie.close (tie.spec (λ c. search needs) (λ c. search needs) (λ c κs. search needs) (λ c. search needs) returns)

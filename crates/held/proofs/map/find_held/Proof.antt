@@ -1,56 +1,33 @@
+use Rattle.held.specs.Walk.{Scanning, scanning-start, scanning-hit, scanning-skip, scanning-end}
+use Rattle.held.specs.At.{named-here}
+use Rattle.held.specs.View.{viewHeld}
+use Rattle.node_addr.specs.View.{finds-some, finds-no}
+use Rattle.rules.specs.Settle.{named}
+use Rattle.laws.specs.Scan.{scan}
+use Prim.Native.Nat.{_-_}
 use borrow.Author.Needs.{needs}
+use native.Mathlib.Omega.{arith}
+use mathlib.Core.Path.{sym, _∙_}
 use Rattle.held.proofs.map.find_held.Statement.{statement}
 use Rattle.held.proofs.map.find_held.Tie as tie
-use Rattle.held.proofs.map.find_held.Reads as reads
-use Rattle.held.proofs.map.find_held.Lts as lts
-use Rattle.held.proofs.map.held_count.Reads as held-count-reads
-use Rattle.node_addr.proofs.place.node_here.Reads as node-here-reads
 
 abbrev Inv-loop : tie.InvT-loop
-Inv-loop s peer n i₀ i = ?
+Inv-loop s peer n i₀ i = Scanning (scan (named (peer .0)) 0 (viewHeld s)) (named (peer .0)) s n i
 
 abbrev μ-loop : tie.MeasureT-loop
-μ-loop s peer n i₀ i = ?
-
-held-count-requires : tie.Need-held-count-requires Inv-loop μ-loop
-held-count-requires c κs = search needs
+μ-loop s peer n i₀ i = n - i
 
 loop-holds : tie.Need-loop-holds Inv-loop μ-loop
-loop-holds c = search needs
-
-mul-node-here : tie.Need-mul-node-here Inv-loop μ-loop
-mul-node-here c = search needs
-
-node-here-requires : tie.Need-node-here-requires Inv-loop μ-loop
-node-here-requires c κs = search needs
+loop-holds c = scanning-start (named (c .before .before .args .peer .0)) (c .before .before .pre) (c .held-count .ensures .0)
 
 returns : tie.Need-returns Inv-loop μ-loop
-returns c = search needs
-
-add-i : tie.Need-add-i Inv-loop μ-loop
-add-i c = search needs
-
-loop-less : tie.Need-loop-less Inv-loop μ-loop
-loop-less c = search needs
+returns c = finds-some (scanning-hit (c .before .before .before .loop .inv) (search needs) (sym (named-here (c .before .before .before .loop .inv .fit) (omega arith) (c .before .before .before .before .before .before .args .peer .0) (c .before .node-here .ensures)) ∙ c .if1 .taken))
 
 loop-again : tie.Need-loop-again Inv-loop μ-loop
-loop-again c = search needs
+loop-again c = scanning-skip (c .before .before .before .loop .inv) (search needs) (sym (named-here (c .before .before .before .loop .inv .fit) (omega arith) (c .before .before .before .before .before .before .args .peer .0) (c .before .node-here .ensures)) ∙ c .if1 .left)
 
 returns-2 : tie.Need-returns-2 Inv-loop μ-loop
-returns-2 c = search needs
+returns-2 c = finds-no (scanning-end (c .before .loop .inv) (search needs))
 
 pub find-held-spec : {M : Type 1} → statement M
-find-held-spec =
-    tie.close
-    (tie.spec
-    Inv-loop
-    μ-loop
-    held-count-requires
-    loop-holds
-    mul-node-here
-    node-here-requires
-    returns
-    add-i
-    loop-less
-    loop-again
-    returns-2)
+find-held-spec = tie.close (tie.spec Inv-loop μ-loop (λ c κs. search needs) loop-holds (λ c. search needs) (λ c κs. search needs) returns (λ c. search needs) (λ c. search needs) loop-again returns-2)

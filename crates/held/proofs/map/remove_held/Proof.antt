@@ -1,18 +1,11 @@
+use Rattle.held.specs.View.{heldOf, fit-zeros}
+use Rattle.laws.specs.Store.{removed-is}
 use borrow.Author.Needs.{needs}
 use Rattle.held.proofs.map.remove_held.Statement.{statement}
 use Rattle.held.proofs.map.remove_held.Tie as tie
-use Rattle.held.proofs.map.remove_held.Reads as reads
-use Rattle.held.proofs.map.remove_held.Lts as lts
-use Rattle.memory.proofs.region.remove_chunk.Reads as remove-chunk-reads
-
-remove-chunk-requires : tie.Need-remove-chunk-requires
-remove-chunk-requires c κs = search needs
-
-same-length : tie.Need-same-length
-same-length c = search needs
 
 returns : tie.Need-returns
-returns c = search needs
+returns c = removed-is heldOf (search needs) (search needs) fit-zeros (c .before .before .remove-chunk .ensures)
 
 pub remove-held-spec : {M : Type 1} → statement M
-remove-held-spec = tie.close (tie.spec remove-chunk-requires same-length returns)
+remove-held-spec = tie.close (tie.spec (λ c κs. search needs) (λ c. search needs) returns)
