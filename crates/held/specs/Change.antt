@@ -11,13 +11,14 @@ use lib.Seq.{set-set, set-getD, getD-set-same}
 use lib.ListN.{length, getD, set, length-set}
 use mir.Syntax.{w32, w64}
 use mir.Val.{Fits}
-use Rattle.rules.specs.Base.{Bytes, same}
+use Rattle.rules.specs.Base.{one, Bytes, same}
 use Rattle.rules.specs.Field.{digits}
 use Rattle.rules.specs.Data.{Pair, samePair, Held}
 use Rattle.rules.specs.Settle.{withEpoch}
 use Rattle.laws.specs.Beside.{same-true}
 use Rattle.laws.specs.Splice.{splice, splice-splice, length-splice, length-digits, Wrote}
 use Rattle.laws.specs.Round.{more-digits}
+use Rattle.laws.specs.Cell.{flag-shows, flag-code}
 use Rattle.laws.specs.Fields.{cuts, cuts-set, sum}
 use Rattle.laws.specs.Store.{changed-is}
 use Rattle.node_addr.specs.View.{viewPair, FitPair}
@@ -31,8 +32,8 @@ use Rattle.held.specs.Walk.{count-is}
 abbrev pub withLink : ℕ → Held → Held
 withLink n h = record { peer = h .peer; link = n; epoch = h .epoch; current = h .current; heard = h .heard; installed = h .installed; last = h .last; setup = h .setup }
 
-abbrev pub marked : Held → Held
-marked h = record { peer = h .peer; link = h .link; epoch = h .epoch; current = h .current; heard = true; installed = h .installed; last = h .last; setup = h .setup }
+abbrev pub withHeard : Bool → Held → Held
+withHeard b h = record { peer = h .peer; link = h .link; epoch = h .epoch; current = h .current; heard = b; installed = h .installed; last = h .last; setup = h .setup }
 
 abbrev pub lastAt : ℕ → Held → Held
 lastAt t h = record { peer = h .peer; link = h .link; epoch = h .epoch; current = h .current; heard = h .heard; installed = h .installed; last = some t; setup = h .setup }
@@ -77,15 +78,15 @@ module _ (c : Bytes) (z : length c ≡ 136) where
   epoch-shows : (v : ℕ) → Fits w64 v → heldOf (splice c 24 (digits 8 v)) ≡ withEpoch v (heldOf c)
   epoch-shows v b = ap heldFrom (epoch-cuts v) ∙ rw (more-digits 8 v (b .fits))
 
-  heard-cuts : cuts 0 0 heldWs (splice c 40 (1 ∷ [])) ≡ set (cuts 0 0 heldWs c) 4 (1 ∷ [])
+  heard-cuts : (b : Bool) → cuts 0 0 heldWs (splice c 40 (one b ∷ [])) ≡ set (cuts 0 0 heldWs c) 4 (one b ∷ [])
   unfolding sum
-  heard-cuts = cuts-set 0 0 heldWs c 4 40 (1 ∷ []) (lit< tt) (omega arith) refl refl
+  heard-cuts b = cuts-set 0 0 heldWs c 4 40 (one b ∷ []) (lit< tt) (omega arith) refl refl
 
-  heard-keeps : FitHeldCell c → FitHeldCell (splice c 40 (1 ∷ []))
-  heard-keeps f = subst FitCells (sym heard-cuts) (record { heard = record { size = refl; low = lit< tt }; last = f .last; setup = f .setup; current = f .current })
+  heard-keeps : (b : Bool) → FitHeldCell c → FitHeldCell (splice c 40 (one b ∷ []))
+  heard-keeps b f = subst FitCells (sym (heard-cuts b)) (record { heard = flag-code b; last = f .last; setup = f .setup; current = f .current })
 
-  heard-shows : heldOf (splice c 40 (1 ∷ [])) ≡ marked (heldOf c)
-  heard-shows = ap heldFrom heard-cuts
+  heard-shows : (b : Bool) → heldOf (splice c 40 (one b ∷ [])) ≡ withHeard b (heldOf c)
+  heard-shows b = ap heldFrom (heard-cuts b) ∙ rw (flag-shows b)
 
   last-cuts : (v : ℕ) → cuts 0 0 heldWs (splice c 41 ((1 ∷ []) ++ digits 8 v)) ≡ set (set (cuts 0 0 heldWs c) 5 (1 ∷ [])) 6 (digits 8 v)
   unfolding sum
@@ -121,8 +122,8 @@ module _ {s l : Bytes} {q : ℕ} (i : ℕ) where
       → FitHeld l × (viewHeld l ≡ set (viewHeld s) i (withEpoch v (heldAt s i)))
   epoch-changed {v} a f h b = changed-is heldOf (withEpoch v) i 24 noHeld a f h (lit≤ tt) (λ c z k. epoch-keeps c z v k) (λ c z. epoch-shows c z v b)
 
-  pub heard-changed : Wrote s (i * 136 + 40) 1 (1 ∷ []) l q → FitHeld s → i < heldCount s → Changed marked i s l
-  heard-changed a f h = changed f (changed-is heldOf marked i 40 noHeld a f h (lit≤ tt) (λ c z k. heard-keeps c z k) (λ c z. heard-shows c z))
+  pub heard-changed : (b : Bool) → Wrote s (i * 136 + 40) 1 (one b ∷ []) l q → FitHeld s → i < heldCount s → Changed (withHeard b) i s l
+  heard-changed b a f h = changed f (changed-is heldOf (withHeard b) i 40 noHeld a f h (lit≤ tt) (λ c z k. heard-keeps c z b k) (λ c z. heard-shows c z b))
 
   pub last-changed : {v : ℕ} → Wrote s (i * 136 + 41) 9 ((1 ∷ []) ++ digits 8 v) l q → FitHeld s → i < heldCount s → Fits w64 v → Changed (lastAt v) i s l
   last-changed {v} a f h b = changed f (changed-is heldOf (lastAt v) i 41 noHeld a f h (lit≤ tt) (λ c z k. last-keeps c z v k) (λ c z. last-shows c z v b))

@@ -1,5 +1,6 @@
-// Single cells of the i-th held peer, read where they stand.
+// The i-th held peer: single cells read where they stand, and the whole.
 use crate::cell::get_flag;
+use crate::record::Held;
 use memory::read::get_be;
 use node_addr::Digest;
 use node_addr::LinkNo;
@@ -14,7 +15,7 @@ ghost use Prim.Native.Nat.{ℕ, _<_};
 ghost use Rattle.rules.specs.Base.{is};
 ghost use Rattle.rules.specs.Data.{samePair};
 ghost use Rattle.node_addr.specs.View.{viewPair, FitPair};
-ghost use Rattle.held.specs.View.{FitHeld, heldCount, heldAt, lastHeard, setupOf};
+ghost use Rattle.held.specs.View.{FitRec, FitHeld, viewRec, heldCount, heldAt, lastHeard, setupOf};
 
 pub fn peer_at(s: &[u8], i: usize) -> NodeAddr
     requires { ⌜ FitHeld (now s) ⌝ }
@@ -110,4 +111,30 @@ pub fn current_is(s: &[u8], i: usize, p: Pair) -> bool
     ensures { λ r. ⌜ r ≡ samePair (viewPair p) (heldAt (now (s .entry)) i .current) ⌝ }
 {
     pair_here(s, i * 136 + 83, p)
+}
+
+// The i-th held peer.
+pub fn get_held(s: &[u8], i: usize) -> Held
+    requires { ⌜ FitHeld (now s) ⌝ }
+    requires { ⌜ i < heldCount (now s) ⌝ }
+    ensures { λ r. ⌜ FitRec r ⌝ }
+    ensures { λ r. ⌜ viewRec r ≡ heldAt (now (s .entry)) i ⌝ }
+{
+    let a = i * 136;
+    let peer = load_node(s, a);
+    let link = get_be(s, a + 16, 8);
+    let setup = load_digest(s, a + 51);
+    let current = load_pair(s, a + 83);
+    Held {
+        peer: peer,
+        link: LinkNo(link),
+        epoch: get_be(s, a + 24, 8),
+        installed: get_be(s, a + 32, 8),
+        heard: get_flag(s, a + 40),
+        dated: get_flag(s, a + 41),
+        last: get_be(s, a + 42, 8),
+        answered: get_flag(s, a + 50),
+        setup: setup,
+        current: current,
+    }
 }

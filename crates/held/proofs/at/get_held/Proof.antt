@@ -1,8 +1,8 @@
 use Rattle.held.specs.Entry.{held-loaded}
 use Rattle.held.specs.At.{current-cell}
 use borrow.Author.Needs.{needs}
-use Rattle.held.proofs.entry.get_held.Statement.{statement}
-use Rattle.held.proofs.entry.get_held.Tie as tie
+use Rattle.held.proofs.at.get_held.Statement.{statement}
+use Rattle.held.proofs.at.get_held.Tie as tie
 
 load-pair-requires : tie.Need-load-pair-requires
 load-pair-requires c κs = (search needs, current-cell (c .before .before .before .before .pre .0) (c .before .before .before .before .pre .1))

@@ -2,8 +2,8 @@ use Rattle.held.specs.Walk.{found-within, altered, none-altered}
 use Rattle.node_addr.specs.View.{finds-at, finds-none, viewPair}
 use Rattle.rules.specs.Settle.{heardFrom}
 use borrow.Author.Needs.{needs}
-use Rattle.held.proofs.peer.hear_peer.Statement.{statement}
-use Rattle.held.proofs.peer.hear_peer.Tie as tie
+use Rattle.held.proofs.heard.hear_peer.Statement.{statement}
+use Rattle.held.proofs.heard.hear_peer.Tie as tie
 
 heard-from-requires : tie.Need-heard-from-requires
 heard-from-requires c κs = (search needs, (found-within (c .before .before .before .before .before .before .before .args .peer .0) (c .before .before .before .before .before .before .before .pre .0) (finds-at (c .before .before .before .before .find-held .ensures) (c .before .before .i .given .1)), search needs))

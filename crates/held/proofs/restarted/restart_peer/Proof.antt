@@ -2,8 +2,8 @@ use Rattle.held.specs.Walk.{found-within, altered, none-altered}
 use Rattle.node_addr.specs.View.{finds-at, finds-none}
 use Rattle.rules.specs.Settle.{withEpoch}
 use borrow.Author.Needs.{needs}
-use Rattle.held.proofs.peer.restart_peer.Statement.{statement}
-use Rattle.held.proofs.peer.restart_peer.Tie as tie
+use Rattle.held.proofs.restarted.restart_peer.Statement.{statement}
+use Rattle.held.proofs.restarted.restart_peer.Tie as tie
 
 set-epoch-requires : tie.Need-set-epoch-requires
 set-epoch-requires c κs = (search needs, found-within (c .before .before .before .before .before .before .before .args .peer .0) (c .before .before .before .before .before .before .before .pre) (finds-at (c .before .before .before .before .find-held .ensures) (c .before .before .i .given .1)))

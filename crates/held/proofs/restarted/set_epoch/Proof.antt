@@ -1,7 +1,7 @@
 use Rattle.held.specs.Change.{epoch-changed}
 use borrow.Author.Needs.{needs}
-use Rattle.held.proofs.change.set_epoch.Statement.{statement}
-use Rattle.held.proofs.change.set_epoch.Tie as tie
+use Rattle.held.proofs.restarted.set_epoch.Statement.{statement}
+use Rattle.held.proofs.restarted.set_epoch.Tie as tie
 
 returns : tie.Need-returns
 returns c = epoch-changed _ (c .before .before .put-be .ensures) (search needs) (search needs) (search needs)
