@@ -1,14 +1,14 @@
 -- What a change of some cells of one entry makes of the region: the epoch, the link, heard, last, the current pair; and changes in a row.
 use mathlib.Core.Path.{_≡_, refl, sym, ap, ap₂, _∙_, subst}
 use mathlib.Core.Bool.{Bool, true, false, _&&_}
-use mathlib.Core.Option.{Option, none, some}
+use mathlib.Core.Option.{some}
 use mathlib.Core.List.{List, [], _∷_, _++_}
 use Prim.Native.Nat.{ℕ, _+_, _*_, _≤_, _<_}
 use native.Mathlib.Omega.{arith}
 use borrow.Author.Tests.{eqb-true}
 use lib.Dec.{eqb, lit≤, lit<}
 use lib.Seq.{set-set, set-getD, getD-set-same}
-use lib.ListN.{length, getD, set, length-set}
+use lib.ListN.{length, set, length-set}
 use mir.Syntax.{w32, w64}
 use mir.Val.{Fits}
 use Rattle.rules.specs.Base.{one, Bytes, same}
@@ -24,7 +24,7 @@ use Rattle.laws.specs.Store.{changed-is}
 use Rattle.node_addr.specs.View.{viewPair, FitPair}
 use Rattle.node_addr.specs.Place.{pairCell, pair-cell-length, pair-cell-fit, pair-cell-shows}
 use Rattle.node_addr.specs.declared.Pair as pair
-use Rattle.held.specs.View.{heldWs, heldFrom, heldOf, FitCells, FitHeldCell, viewHeld, FitHeld, heldCount, noHeld, heldAt}
+use Rattle.held.specs.View.{heldWs, heldFrom, heldOf, FitCells, FitHeldCell, viewHeld, FitHeld, heldCount, noHeld, nthHeld}
 use Rattle.held.specs.Entry.{optional-number}
 use Rattle.held.specs.Walk.{count-is}
 
@@ -45,16 +45,16 @@ withCurrent p h = record { peer = h .peer; link = h .link; epoch = h .epoch; cur
 pub record Changed (g : Held → Held) (i : ℕ) (s l : Bytes) : Type 0 where
   pub fit : FitHeld l
   pub count : heldCount l ≡ heldCount s
-  pub is : viewHeld l ≡ set (viewHeld s) i (g (heldAt s i))
+  pub is : viewHeld l ≡ set (viewHeld s) i (g (nthHeld s i))
 
-changed : {g : Held → Held} {i : ℕ} {s l : Bytes} → FitHeld s → FitHeld l × (viewHeld l ≡ set (viewHeld s) i (g (heldAt s i))) → Changed g i s l
+changed : {g : Held → Held} {i : ℕ} {s l : Bytes} → FitHeld s → FitHeld l × (viewHeld l ≡ set (viewHeld s) i (g (nthHeld s i))) → Changed g i s l
 changed f r = record { fit = r .0; count = sym (count-is (r .0)) ∙ ap length (r .1) ∙ simp length-set (count-is f); is = r .1 }
 
 -- one change after another
 pub changed-then : {g k : Held → Held} {i : ℕ} {s l m : Bytes} → FitHeld s → i < heldCount s → Changed g i s l → Changed k i l m → Changed (λ h. k (g h)) i s m
 changed-then {g} {k} {i} {s} {l} f h a b =
-    let x : heldAt l i ≡ g (heldAt s i) = rw (a .is) (getD-set-same (viewHeld s) i (g (heldAt s i)) noHeld (rw (count-is f) h)) in
-    record { fit = b .fit; count = b .count ∙ a .count; is = b .is ∙ rw (x, a .is) (set-set (viewHeld s) i (g (heldAt s i)) (k (g (heldAt s i)))) }
+    let x : nthHeld l i ≡ g (nthHeld s i) = rw (a .is) (getD-set-same (viewHeld s) i (g (nthHeld s i)) noHeld (rw (count-is f) h)) in
+    record { fit = b .fit; count = b .count ∙ a .count; is = b .is ∙ rw (x, a .is) (set-set (viewHeld s) i (g (nthHeld s i)) (k (g (nthHeld s i)))) }
 
 -- ---- in one entry
 module _ (c : Bytes) (z : length c ≡ 136) where
@@ -119,7 +119,7 @@ module _ {s l : Bytes} {q : ℕ} (i : ℕ) where
   link-changed {v} a f h b = changed f (changed-is heldOf (withLink v) i 16 noHeld a f h (lit≤ tt) (λ c z k. link-keeps c z v k) (λ c z. link-shows c z v b))
 
   pub epoch-changed : {v : ℕ} → Wrote s (i * 136 + 24) 8 (digits 8 v) l q → FitHeld s → i < heldCount s → Fits w64 v
-      → FitHeld l × (viewHeld l ≡ set (viewHeld s) i (withEpoch v (heldAt s i)))
+      → FitHeld l × (viewHeld l ≡ set (viewHeld s) i (withEpoch v (nthHeld s i)))
   epoch-changed {v} a f h b = changed-is heldOf (withEpoch v) i 24 noHeld a f h (lit≤ tt) (λ c z k. epoch-keeps c z v k) (λ c z. epoch-shows c z v b)
 
   pub heard-changed : (b : Bool) → Wrote s (i * 136 + 40) 1 (one b ∷ []) l q → FitHeld s → i < heldCount s → Changed (withHeard b) i s l
@@ -147,6 +147,6 @@ pair-is p q e = go (eqb (p .transport) (q .transport)) refl e
         ap₂ (λ (n : ℕ) (b : Bytes). pairFrom n b) t a
     go false x y = cc
 
-pub current-kept : {s : Bytes} (i : ℕ) (p : Pair) → FitHeld s → samePair p (heldAt s i .current) ≡ true → Changed (withCurrent p) i s s
+pub current-kept : {s : Bytes} (i : ℕ) (p : Pair) → FitHeld s → samePair p (nthHeld s i .current) ≡ true → Changed (withCurrent p) i s s
 current-kept {s} i p f e =
-    record { fit = f; count = refl; is = sym (rw (pair-is p (heldAt s i .current) e) (set-getD (viewHeld s) i noHeld)) }
+    record { fit = f; count = refl; is = sym (rw (pair-is p (nthHeld s i .current) e) (set-getD (viewHeld s) i noHeld)) }

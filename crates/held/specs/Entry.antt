@@ -20,9 +20,9 @@ use Rattle.laws.specs.Chunk.{chunks, joined}
 use Rattle.laws.specs.Fields.{cuts, cuts-at, cuts-joined, sum}
 use Rattle.node_addr.specs.View.{FitPair, viewPair}
 use Rattle.node_addr.specs.Alike.{byte-here}
-use Rattle.node_addr.specs.Place.{pairOf, pairCell, PairCell, pair-cell-length, pair-cell-fit, pair-cell-shows}
+use Rattle.node_addr.specs.Place.{pairOf, pairCell, pair-cell-length, pair-cell-fit, pair-cell-shows}
 use Rattle.held.specs.declared.record.Held as held
-use Rattle.held.specs.View.{heldWs, cell, heldFrom, heldOf, FitCells, FitHeldCell, viewHeld, FitHeld, heldCount, noHeld, heldAt, viewRec, FitRec}
+use Rattle.held.specs.View.{heldWs, heldFrom, heldOf, FitCells, FitHeldCell, FitHeld, heldCount, noHeld, nthHeld, viewRec, FitRec}
 
 -- ---- what is written
 abbrev pub heldFields : held.Held → List Bytes
@@ -117,7 +117,7 @@ cells-here s i f h = cuts-at 136 32 s i [] 0 heldWs (omega arith) (lit≤ tt) (o
 pub fit-here : (s : Bytes) (i : ℕ) → FitHeld s → i < heldCount s → FitCells (cuts (i * 136) 0 heldWs s)
 fit-here s i f h = subst FitCells (sym (cells-here s i f h)) (fit-at heldOf i [] (f .kept) h)
 
-pub held-here : (s : Bytes) (i : ℕ) → FitHeld s → i < heldCount s → heldFrom (cuts (i * 136) 0 heldWs s) ≡ heldAt s i
+pub held-here : (s : Bytes) (i : ℕ) → FitHeld s → i < heldCount s → heldFrom (cuts (i * 136) 0 heldWs s) ≡ nthHeld s i
 held-here s i f h = ap heldFrom (cells-here s i f h) ∙ shown heldOf i [] noHeld (f .kept) h
 
 -- h was read at a
@@ -142,7 +142,7 @@ pub num-zeros : num (replicate 8 0) ≡ 0
 unfolding more
 num-zeros = refl
 
-pub held-loaded : (s : Bytes) (i : ℕ) (h : held.Held) → FitHeld s → i < heldCount s → Loaded h (i * 136) s → FitRec h × (viewRec h ≡ heldAt s i)
+pub held-loaded : (s : Bytes) (i : ℕ) (h : held.Held) → FitHeld s → i < heldCount s → Loaded h (i * 136) s → FitRec h × (viewRec h ≡ nthHeld s i)
 held-loaded s i h f l r =
     let z : i * 136 + 0 ≡ i * 136 = add-zero (i * 136) in
     let k = fit-here s i f l in

@@ -1,21 +1,21 @@
 -- Zeroed memory holds no peer; and regions that fit and show the same are the same bytes.
 use mathlib.Core.Path.{_≡_, refl, sym, ap, _∙_}
-use mathlib.Core.List.{List, [], _∷_, _++_}
-use Prim.Native.Nat.{ℕ, zero, suc, _+_, _*_, _≤_}
+use mathlib.Core.List.{List, [], _∷_}
+use Prim.Native.Nat.{ℕ, zero, suc, _+_, _≤_}
 use native.Mathlib.Omega.{arith}
 use lib.Dec.{lit<}
 use lib.Seq.{length-take-le, take-add, take-all, drop-drop}
-use lib.ListN.{length, take, drop, getD, replicate, length-drop, getD-replicate}
+use lib.ListN.{length, take, drop, replicate, length-drop, getD-replicate}
 use Rattle.rules.specs.Base.{Bytes, All}
 use Rattle.rules.specs.Bounds.{IsByte}
 use Rattle.rules.specs.Data.{Held}
-use Rattle.laws.specs.Shift.{Kept, all-take, all-drop}
+use Rattle.laws.specs.Shift.{all-take, all-drop}
 use Rattle.laws.specs.Cell.{num, num-same, flag-same, option-num-same, option-bytes-same}
 use Rattle.laws.specs.Chunk.{chunks, joined}
 use Rattle.laws.specs.Fields.{cuts, sum}
 use Rattle.laws.specs.Store.{Store, store-zeros, same-view}
 use Rattle.node_addr.specs.Place.{pair-cell-same}
-use Rattle.held.specs.View.{heldWs, cell, heldFrom, heldOf, FitHeldCell, viewHeld, FitHeld, heldCount, fit-zeros}
+use Rattle.held.specs.View.{heldWs, heldOf, FitHeldCell, viewHeld, FitHeld, heldCount, fit-zeros}
 
 -- ---- new memory
 pub fit-new : FitHeld (replicate 4353 0)

@@ -1,13 +1,13 @@
 -- What the bytes of an entry, a region and a held peer by value show, and their canonical form.
 use mathlib.Core.Path.{_≡_, refl}
-use mathlib.Core.Bool.{Bool, true, false}
+use mathlib.Core.Bool.{false}
 use mathlib.Core.Option.{Option, none, some}
 use mathlib.Core.List.{List, [], _∷_}
 use Prim.Native.Nat.{ℕ}
-use lib.Dec.{lit≤, lit<}
+use lib.Dec.{lit<}
 use lib.ListN.{length, getD, replicate}
 use Rattle.rules.specs.Base.{if_then_else_, option, Bytes}
-use Rattle.rules.specs.Data.{Pair, Held}
+use Rattle.rules.specs.Data.{Held}
 use Rattle.laws.specs.Cell.{num, flagOf, optionNum, optionBytes, Code, Optional}
 use Rattle.laws.specs.Fields.{cuts}
 use Rattle.laws.specs.Store.{Store, entries}
@@ -62,8 +62,8 @@ abbrev pub noHeld : Held
 noHeld = heldOf (replicate 136 0)
 
 -- the i-th held peer
-abbrev pub heldAt : Bytes → ℕ → Held
-heldAt s i = getD (viewHeld s) i noHeld
+abbrev pub nthHeld : Bytes → ℕ → Held
+nthHeld s i = getD (viewHeld s) i noHeld
 
 -- an entry of zeros
 pub fit-zeros : FitHeldCell (replicate 136 0)

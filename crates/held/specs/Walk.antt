@@ -2,7 +2,7 @@
 use mathlib.Core.Path.{_≡_, refl, sym, ap, _∙_}
 use mathlib.Core.Bool.{Bool, true, false}
 use mathlib.Core.Option.{Option, none, some}
-use mathlib.Core.List.{List, []}
+use mathlib.Core.List.{[]}
 use Prim.Native.Nat.{ℕ, _+_, _≤_, _<_}
 use native.Mathlib.Omega.{arith}
 use lib.ListN.{length, set}
@@ -13,8 +13,8 @@ use Rattle.rules.specs.Settle.{named, earlierHeld}
 use Rattle.laws.specs.Shift.{shown, erase, insert}
 use Rattle.laws.specs.Scan.{scan, Ahead, scan-hit, scan-skip, scan-end, scan-within, length-shows}
 use Rattle.laws.specs.Place.{without-at, without-nowhere, alter-at, alter-nowhere, insert-at, insert-last, insert-end}
-use Rattle.laws.specs.Chunk.{chunks, length-chunks}
-use Rattle.held.specs.View.{heldOf, viewHeld, FitHeld, heldCount, noHeld, heldAt}
+use Rattle.laws.specs.Chunk.{chunks}
+use Rattle.held.specs.View.{heldOf, viewHeld, FitHeld, heldCount, noHeld, nthHeld}
 use Rattle.held.specs.At.{precedes}
 
 pub count-is : {s : Bytes} → FitHeld s → length (viewHeld s) ≡ heldCount s
@@ -30,10 +30,10 @@ pub scanning-start : {s : Bytes} {n : ℕ} (t : Held → Bool) → FitHeld s →
 scanning-start t f e = record { fit = f; count = e; ahead = record { within = omega arith; room = omega arith; left = refl } }
 
 module _ {o : Option ℕ} {t : Held → Bool} {s : Bytes} {n i : ℕ} (a : Scanning o t s n i) where
-  pub scanning-hit : i < n → t (heldAt s i) ≡ true → o ≡ some i
+  pub scanning-hit : i < n → t (nthHeld s i) ≡ true → o ≡ some i
   scanning-hit h e = scan-hit (a .ahead) [] (omega arith) (ap t (shown heldOf i [] noHeld (a .fit .kept) (omega arith)) ∙ e)
 
-  pub scanning-skip : i < n → t (heldAt s i) ≡ false → Scanning o t s n (i + 1)
+  pub scanning-skip : i < n → t (nthHeld s i) ≡ false → Scanning o t s n (i + 1)
   scanning-skip h e = record {
     fit = a .fit;
     count = a .count;
@@ -48,7 +48,7 @@ pub record Slot (p : Bytes) (r : ℕ) (s : Bytes) : Type 0 where
   pub within : r ≤ heldCount s
   pub is : r ≡ option (scan (precedes p) 0 (viewHeld s)) (heldCount s) λ i. i
 
-pub slot-before : {p s : Bytes} {i n : ℕ} → Scanning (scan (precedes p) 0 (viewHeld s)) (precedes p) s n i → i < n → precedes p (heldAt s i) ≡ true → Slot p i s
+pub slot-before : {p s : Bytes} {i n : ℕ} → Scanning (scan (precedes p) 0 (viewHeld s)) (precedes p) s n i → i < n → precedes p (nthHeld s i) ≡ true → Slot p i s
 slot-before a h e = record { within = omega arith; is = rw (scanning-hit a h e) }
 
 pub slot-last : {p s : Bytes} {i n : ℕ} → Scanning (scan (precedes p) 0 (viewHeld s)) (precedes p) s n i → n ≤ i → Slot p n s
@@ -73,7 +73,7 @@ module _ (p : Bytes) where
   pub none-dropped : {s : Bytes} → FitHeld s → scan (named p) 0 (viewHeld s) ≡ none → FitHeld s × (viewHeld s ≡ without (named p) (viewHeld s))
   none-dropped {s} f e = (f, sym (without-nowhere (named p) (viewHeld s) e))
 
-  pub altered : (g : Held → Held) {s l : Bytes} {i : ℕ} → FitHeld s → FitHeld l → scan (named p) 0 (viewHeld s) ≡ some i → viewHeld l ≡ set (viewHeld s) i (g (heldAt s i))
+  pub altered : (g : Held → Held) {s l : Bytes} {i : ℕ} → FitHeld s → FitHeld l → scan (named p) 0 (viewHeld s) ≡ some i → viewHeld l ≡ set (viewHeld s) i (g (nthHeld s i))
       → FitHeld l × (viewHeld l ≡ alter (named p) g (viewHeld s))
   altered g {s} {l} {i} f k e q = (k, q ∙ sym (alter-at (named p) (viewHeld s) i e g noHeld))
 

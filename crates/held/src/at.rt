@@ -11,16 +11,16 @@ use node_addr::place::load_node;
 use node_addr::place::load_pair;
 use node_addr::place::pair_here;
 ghost use mathlib.Core.Path.{_≡_};
-ghost use Prim.Native.Nat.{ℕ, _<_};
+ghost use Prim.Native.Nat.{_<_};
 ghost use Rattle.rules.specs.Base.{is};
 ghost use Rattle.rules.specs.Data.{samePair};
 ghost use Rattle.node_addr.specs.View.{viewPair, FitPair};
-ghost use Rattle.held.specs.View.{FitRec, FitHeld, viewRec, heldCount, heldAt, lastHeard, setupOf};
+ghost use Rattle.held.specs.View.{FitRec, FitHeld, viewRec, heldCount, nthHeld, lastHeard, setupOf};
 
 pub fn peer_at(s: &[u8], i: usize) -> NodeAddr
     requires { ⌜ FitHeld (now s) ⌝ }
     requires { ⌜ i < heldCount (now s) ⌝ }
-    ensures { λ r. ⌜ r .0 ≡ heldAt (now (s .entry)) i .peer ⌝ }
+    ensures { λ r. ⌜ r .0 ≡ nthHeld (now (s .entry)) i .peer ⌝ }
 {
     load_node(s, i * 136)
 }
@@ -28,7 +28,7 @@ pub fn peer_at(s: &[u8], i: usize) -> NodeAddr
 pub fn link_at(s: &[u8], i: usize) -> LinkNo
     requires { ⌜ FitHeld (now s) ⌝ }
     requires { ⌜ i < heldCount (now s) ⌝ }
-    ensures { λ r. ⌜ r .0 ≡ heldAt (now (s .entry)) i .link ⌝ }
+    ensures { λ r. ⌜ r .0 ≡ nthHeld (now (s .entry)) i .link ⌝ }
 {
     let n = get_be(s, i * 136 + 16, 8);
     LinkNo(n)
@@ -37,7 +37,7 @@ pub fn link_at(s: &[u8], i: usize) -> LinkNo
 pub fn epoch_at(s: &[u8], i: usize) -> u64
     requires { ⌜ FitHeld (now s) ⌝ }
     requires { ⌜ i < heldCount (now s) ⌝ }
-    ensures { λ r. ⌜ r ≡ heldAt (now (s .entry)) i .epoch ⌝ }
+    ensures { λ r. ⌜ r ≡ nthHeld (now (s .entry)) i .epoch ⌝ }
 {
     get_be(s, i * 136 + 24, 8)
 }
@@ -45,7 +45,7 @@ pub fn epoch_at(s: &[u8], i: usize) -> u64
 pub fn installed_at(s: &[u8], i: usize) -> u64
     requires { ⌜ FitHeld (now s) ⌝ }
     requires { ⌜ i < heldCount (now s) ⌝ }
-    ensures { λ r. ⌜ r ≡ heldAt (now (s .entry)) i .installed ⌝ }
+    ensures { λ r. ⌜ r ≡ nthHeld (now (s .entry)) i .installed ⌝ }
 {
     get_be(s, i * 136 + 32, 8)
 }
@@ -53,7 +53,7 @@ pub fn installed_at(s: &[u8], i: usize) -> u64
 pub fn heard_at(s: &[u8], i: usize) -> bool
     requires { ⌜ FitHeld (now s) ⌝ }
     requires { ⌜ i < heldCount (now s) ⌝ }
-    ensures { λ r. ⌜ r ≡ heldAt (now (s .entry)) i .heard ⌝ }
+    ensures { λ r. ⌜ r ≡ nthHeld (now (s .entry)) i .heard ⌝ }
 {
     get_flag(s, i * 136 + 40)
 }
@@ -62,7 +62,7 @@ pub fn heard_at(s: &[u8], i: usize) -> bool
 pub fn dated_at(s: &[u8], i: usize) -> bool
     requires { ⌜ FitHeld (now s) ⌝ }
     requires { ⌜ i < heldCount (now s) ⌝ }
-    ensures { λ r. ⌜ r ≡ is (heldAt (now (s .entry)) i .last) ⌝ }
+    ensures { λ r. ⌜ r ≡ is (nthHeld (now (s .entry)) i .last) ⌝ }
 {
     get_flag(s, i * 136 + 41)
 }
@@ -71,7 +71,7 @@ pub fn dated_at(s: &[u8], i: usize) -> bool
 pub fn last_at(s: &[u8], i: usize) -> u64
     requires { ⌜ FitHeld (now s) ⌝ }
     requires { ⌜ i < heldCount (now s) ⌝ }
-    ensures { λ r. ⌜ r ≡ lastHeard (heldAt (now (s .entry)) i) ⌝ }
+    ensures { λ r. ⌜ r ≡ lastHeard (nthHeld (now (s .entry)) i) ⌝ }
 {
     get_be(s, i * 136 + 42, 8)
 }
@@ -80,7 +80,7 @@ pub fn last_at(s: &[u8], i: usize) -> u64
 pub fn answered_at(s: &[u8], i: usize) -> bool
     requires { ⌜ FitHeld (now s) ⌝ }
     requires { ⌜ i < heldCount (now s) ⌝ }
-    ensures { λ r. ⌜ r ≡ is (heldAt (now (s .entry)) i .setup) ⌝ }
+    ensures { λ r. ⌜ r ≡ is (nthHeld (now (s .entry)) i .setup) ⌝ }
 {
     get_flag(s, i * 136 + 50)
 }
@@ -89,7 +89,7 @@ pub fn answered_at(s: &[u8], i: usize) -> bool
 pub fn setup_at(s: &[u8], i: usize) -> Digest
     requires { ⌜ FitHeld (now s) ⌝ }
     requires { ⌜ i < heldCount (now s) ⌝ }
-    ensures { λ r. ⌜ r .0 ≡ setupOf (heldAt (now (s .entry)) i) ⌝ }
+    ensures { λ r. ⌜ r .0 ≡ setupOf (nthHeld (now (s .entry)) i) ⌝ }
 {
     load_digest(s, i * 136 + 51)
 }
@@ -98,7 +98,7 @@ pub fn current_at(s: &[u8], i: usize) -> Pair
     requires { ⌜ FitHeld (now s) ⌝ }
     requires { ⌜ i < heldCount (now s) ⌝ }
     ensures { λ r. ⌜ FitPair r ⌝ }
-    ensures { λ r. ⌜ viewPair r ≡ heldAt (now (s .entry)) i .current ⌝ }
+    ensures { λ r. ⌜ viewPair r ≡ nthHeld (now (s .entry)) i .current ⌝ }
 {
     load_pair(s, i * 136 + 83)
 }
@@ -108,7 +108,7 @@ pub fn current_is(s: &[u8], i: usize, p: Pair) -> bool
     requires { ⌜ FitHeld (now s) ⌝ }
     requires { ⌜ i < heldCount (now s) ⌝ }
     requires { ⌜ FitPair p ⌝ }
-    ensures { λ r. ⌜ r ≡ samePair (viewPair p) (heldAt (now (s .entry)) i .current) ⌝ }
+    ensures { λ r. ⌜ r ≡ samePair (viewPair p) (nthHeld (now (s .entry)) i .current) ⌝ }
 {
     pair_here(s, i * 136 + 83, p)
 }
@@ -118,7 +118,7 @@ pub fn get_held(s: &[u8], i: usize) -> Held
     requires { ⌜ FitHeld (now s) ⌝ }
     requires { ⌜ i < heldCount (now s) ⌝ }
     ensures { λ r. ⌜ FitRec r ⌝ }
-    ensures { λ r. ⌜ viewRec r ≡ heldAt (now (s .entry)) i ⌝ }
+    ensures { λ r. ⌜ viewRec r ≡ nthHeld (now (s .entry)) i ⌝ }
 {
     let a = i * 136;
     let peer = load_node(s, a);

@@ -6,7 +6,7 @@ use memory::write::put_byte;
 use node_addr::LinkNo;
 use node_addr::Pair;
 use node_addr::place::put_pair;
-ghost use Prim.Native.Nat.{ℕ, _<_};
+ghost use Prim.Native.Nat.{_<_};
 ghost use Rattle.node_addr.specs.View.{viewPair, FitPair};
 ghost use Rattle.held.specs.View.{FitHeld, heldCount};
 ghost use Rattle.held.specs.Change.{Changed, withLink, withHeard, lastAt, withCurrent};

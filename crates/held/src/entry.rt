@@ -5,7 +5,7 @@ use memory::write::put_be;
 use node_addr::place::put_digest;
 use node_addr::place::put_node;
 use node_addr::place::put_pair;
-ghost use Prim.Native.Nat.{ℕ, _+_, _≤_};
+ghost use Prim.Native.Nat.{_+_, _≤_};
 ghost use lib.ListN.{length};
 ghost use Rattle.laws.specs.Splice.{Wrote};
 ghost use Rattle.held.specs.View.{FitRec};

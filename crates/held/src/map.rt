@@ -9,7 +9,7 @@ use node_addr::NodeAddr;
 use node_addr::place::before_here;
 use node_addr::place::node_here;
 ghost use mathlib.Core.Path.{_≡_};
-ghost use Prim.Native.Nat.{ℕ, _<_};
+ghost use Prim.Native.Nat.{_<_};
 ghost use lib.ListN.{length};
 ghost use Rattle.rules.specs.Base.{without};
 ghost use Rattle.rules.specs.Std.{insert};

@@ -8,19 +8,19 @@ use node_addr::LinkNo;
 use node_addr::NodeAddr;
 use node_addr::Pair;
 ghost use mathlib.Core.Path.{_≡_};
-ghost use Prim.Native.Nat.{ℕ, _<_};
+ghost use Prim.Native.Nat.{_<_};
 ghost use lib.ListN.{set};
 ghost use Rattle.rules.specs.Base.{alter};
 ghost use Rattle.rules.specs.Settle.{named, movedTo};
 ghost use Rattle.node_addr.specs.View.{viewPair, FitPair};
-ghost use Rattle.held.specs.View.{FitHeld, viewHeld, heldCount, heldAt};
+ghost use Rattle.held.specs.View.{FitHeld, viewHeld, heldCount, nthHeld};
 
 pub fn moved_to(s: &mut [u8], i: usize, link: LinkNo, from: Pair)
     requires { ⌜ FitHeld (now s) ⌝ }
     requires { ⌜ i < heldCount (now s) ⌝ }
     requires { ⌜ FitPair from ⌝ }
     ensures { λ r. ⌜ FitHeld (now (s .exit)) ⌝ }
-    ensures { λ r. ⌜ viewHeld (now (s .exit)) ≡ set (viewHeld (now (s .entry))) i (movedTo (link .0) (viewPair from) (heldAt (now (s .entry)) i)) ⌝ }
+    ensures { λ r. ⌜ viewHeld (now (s .exit)) ≡ set (viewHeld (now (s .entry))) i (movedTo (link .0) (viewPair from) (nthHeld (now (s .entry)) i)) ⌝ }
 {
     set_link(s, i, link);
     set_heard(s, i, true);

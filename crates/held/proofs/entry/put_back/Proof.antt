@@ -4,7 +4,13 @@ use Rattle.held.proofs.entry.put_back.Statement.{statement}
 use Rattle.held.proofs.entry.put_back.Tie as tie
 
 returns : tie.Need-returns
-returns c = wrote-then (wrote-then (wrote-then (wrote-then (c .before .before .before .before .before .before .before .before .before .before .before .before .before .before .before .before .before .before .put-flag .ensures) (c .before .before .before .before .before .before .before .before .before .before .before .before .before .before .put-be .ensures)) (c .before .before .before .before .before .before .before .before .before .before .put-flag2 .ensures)) (c .before .before .before .before .before .before .put-digest .ensures)) (c .before .before .put-pair .ensures)
+returns x =
+    let e = x .before .before in
+    let d = e .before .before .before .before in
+    let c = d .before .before .before .before in
+    let b = c .before .before .before .before in
+    let a = b .before .before .before .before in
+    wrote-then (wrote-then (wrote-then (wrote-then (a .put-flag .ensures) (b .put-be .ensures)) (c .put-flag2 .ensures)) (d .put-digest .ensures)) (e .put-pair .ensures)
 
 pub put-back-spec : {M : Type 1} → statement M
 put-back-spec = tie.close (tie.spec (λ c κs. search needs) (λ c κs. search needs) (λ c κs. search needs) (λ c κs. search needs) (λ c κs. search needs) (λ c. search needs) returns)

@@ -21,10 +21,14 @@ loop-holds : tie.Need-loop-holds Inv-loop μ-loop
 loop-holds c = scanning-start (named (c .before .before .args .peer .0)) (c .before .before .pre) (c .held-count .ensures .0)
 
 returns : tie.Need-returns Inv-loop μ-loop
-returns c = finds-some (scanning-hit (c .before .before .before .loop .inv) (search needs) (sym (named-here (c .before .before .before .loop .inv .fit) (omega arith) (c .before .before .before .before .before .before .args .peer .0) (c .before .node-here .ensures)) ∙ c .if1 .taken))
+returns c =
+    let l = c .before .before .before .loop in
+    finds-some (scanning-hit (l .inv) (search needs) (sym (named-here (l .inv .fit) (omega arith) (c .before .before .before .before .before .before .args .peer .0) (c .before .node-here .ensures)) ∙ c .if1 .taken))
 
 loop-again : tie.Need-loop-again Inv-loop μ-loop
-loop-again c = scanning-skip (c .before .before .before .loop .inv) (search needs) (sym (named-here (c .before .before .before .loop .inv .fit) (omega arith) (c .before .before .before .before .before .before .args .peer .0) (c .before .node-here .ensures)) ∙ c .if1 .left)
+loop-again c =
+    let l = c .before .before .before .loop in
+    scanning-skip (l .inv) (search needs) (sym (named-here (l .inv .fit) (omega arith) (c .before .before .before .before .before .before .args .peer .0) (c .before .node-here .ensures)) ∙ c .if1 .left)
 
 returns-2 : tie.Need-returns-2 Inv-loop μ-loop
 returns-2 c = finds-no (scanning-end (c .before .loop .inv) (search needs))
