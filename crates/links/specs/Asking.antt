@@ -1,0 +1,85 @@
+-- Whether some element of a list passes a test, and those that pass, by loops over the places of a map.
+use mathlib.Core.Path.{_≡_, refl, sym, ap, _∙_}
+use mathlib.Core.Bool.{Bool, true, false, not, _&&_, _||_}
+use mathlib.Core.List.{List, [], _∷_, _++_, map, append-assoc, append-nil}
+use Prim.Native.Nat.{ℕ, zero, suc, _+_, _≤_, _<_}
+use native.Mathlib.Nat.{not-suc-le-zero, le-of-suc-le-suc}
+use native.Mathlib.Numerals.{add-one}
+use native.Mathlib.Omega.{arith}
+use borrow.Author.Needs.{needs}
+use lib.Seq.{drop-cons, take-suc, take-at, drop-at, length-take-le, take-all, drop-drop}
+use lib.ListN.{length, take, drop, getD, drop-of-length-le, length-take}
+use Rattle.rules.specs.Base.{if_then_else_, any, keep}
+use Rattle.laws.specs.Shift.{Kept, erase}
+use Rattle.laws.specs.Scan.{shows-cons, length-shows}
+
+-- the loop stands at i: the answer o is the answer of what is left
+pub record Asking {A B : Type 0} (o : Bool) (t : B → Bool) (f : A → B) (n : ℕ) (ps : List A) (i : ℕ) : Type 0 where
+  pub within : i ≤ n
+  pub room : n ≤ length ps
+  pub left : o ≡ any t (drop i (map f (take n ps)))
+
+pub ask-start : {A B : Type 0} {P : A → Type 0} {b : A} {cap n : ℕ} {ps : List A} (t : B → Bool) (f : A → B) → Kept P b cap n ps → Asking (any t (map f (take n ps))) t f n ps 0
+ask-start t f k = record { within = omega arith; room = omega arith; left = refl }
+
+module _ {A B : Type 0} {o : Bool} {t : B → Bool} {f : A → B} {n : ℕ} {ps : List A} {i : ℕ} (a : Asking o t f n ps i) where
+  pub ask-hit : (d : A) → i < n → t (f (getD ps i d)) ≡ true → true ≡ o
+  ask-hit d p q = sym (a .left ∙ rw (shows-cons f n ps i d (a .room) p, q))
+
+  pub ask-skip : (d : A) → i < n → t (f (getD ps i d)) ≡ false → Asking o t f n ps (i + 1)
+  ask-skip d p q = record { within = omega arith; room = a .room; left = a .left ∙ rw (shows-cons f n ps i d (a .room) p, q, add-one) }
+
+  pub ask-end : n ≤ i → false ≡ o
+  ask-end p = sym (a .left ∙ rw (drop-of-length-le (map f (take n ps)) {i = i} (rw (length-shows f n ps (a .room)) p)))
+
+-- ---- tests joined
+pub or-true : (b : Bool) → (b || true) ≡ true
+or-true true = refl
+or-true false = refl
+
+pub or-false : (b : Bool) → (b || false) ≡ b
+or-false true = refl
+or-false false = refl
+
+pub and-true : (b : Bool) → (b && true) ≡ b
+and-true true = refl
+and-true false = refl
+
+pub and-false : (b : Bool) → (b && false) ≡ false
+and-false true = refl
+and-false false = refl
+
+-- ---- a loop that drops, in place, what does not pass: it stands at j of the list u, which was xs
+pub record Keeping {B : Type 0} (t : B → Bool) (xs u : List B) (j : ℕ) : Type 0 where
+  pub within : j ≤ length u
+  pub left : take j u ++ keep t (drop j u) ≡ keep t xs
+
+pub keeping-start : {B : Type 0} (t : B → Bool) (xs : List B) → Keeping t xs xs 0
+keeping-start t xs = record { within = omega arith; left = refl }
+
+module _ {B : Type 0} {t : B → Bool} {xs u : List B} {j : ℕ} (a : Keeping t xs u j) where
+  pub keeping-pass : (d : B) → j < length u → t (getD u j d) ≡ true → Keeping t xs u (j + 1)
+  keeping-pass d p q = record {
+    within = omega arith;
+    left = rw (add-one, take-suc u j d p) (append-assoc (take j u) (getD u j d ∷ []) (keep t (drop (suc j) u)) ∙ sym (step (drop-cons u j d p)) ∙ a .left);
+  }
+    where
+      step : drop j u ≡ getD u j d ∷ drop (suc j) u → take j u ++ keep t (drop j u) ≡ take j u ++ (getD u j d ∷ keep t (drop (suc j) u))
+      step e = rw (e, q)
+
+  pub keeping-drop : (d : B) {v : List B} → j < length u → t (getD u j d) ≡ false → v ≡ erase j u → Keeping t xs v j
+  unfolding erase
+  keeping-drop d p q e =
+      let l : length (take j u) ≡ j = length-take-le j u (omega arith) in
+      record {
+        within = rw e (rw (ap length (refl {x = take j u ++ drop (j + 1) u})) (more l));
+        left = rw (e, take-at (take j u) (drop (j + 1) u) j l, drop-at (take j u) (drop (j + 1) u) j l, add-one) (sym (step (drop-cons u j d p)) ∙ a .left);
+      }
+    where
+      step : drop j u ≡ getD u j d ∷ drop (suc j) u → take j u ++ keep t (drop j u) ≡ take j u ++ keep t (drop (suc j) u)
+      step e = rw (e, q)
+      more : length (take j u) ≡ j → j ≤ length (take j u ++ drop (j + 1) u)
+      more l = ?
+
+  pub keeping-end : length u ≤ j → u ≡ keep t xs
+  keeping-end p = sym (sym (a .left) ∙ rw (take-all j u p, drop-of-length-le u {i = j} p, append-nil))

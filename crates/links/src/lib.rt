@@ -1,0 +1,2 @@
+// Link records in lent memory: 32 of 297 bytes in the order of their numbers, and their count.
+pub mod record;
