@@ -8,7 +8,7 @@ use native.Mathlib.Numerals.{add-one}
 use native.Mathlib.Omega.{arith}
 use borrow.Author.Needs.{needs}
 use lib.Seq.{drop-cons, take-suc, take-at, drop-at, length-take-le, take-all, drop-drop}
-use lib.ListN.{length, take, drop, getD, drop-of-length-le, length-take}
+use lib.ListN.{length, take, drop, getD, drop-of-length-le, length-append}
 use Rattle.rules.specs.Base.{if_then_else_, any, keep}
 use Rattle.laws.specs.Shift.{Kept, erase}
 use Rattle.laws.specs.Scan.{shows-cons, length-shows}
@@ -72,14 +72,12 @@ module _ {B : Type 0} {t : B → Bool} {xs u : List B} {j : ℕ} (a : Keeping t 
   keeping-drop d p q e =
       let l : length (take j u) ≡ j = length-take-le j u (omega arith) in
       record {
-        within = rw e (rw (ap length (refl {x = take j u ++ drop (j + 1) u})) (more l));
+        within = rw (e, length-append) (omega arith);
         left = rw (e, take-at (take j u) (drop (j + 1) u) j l, drop-at (take j u) (drop (j + 1) u) j l, add-one) (sym (step (drop-cons u j d p)) ∙ a .left);
       }
     where
       step : drop j u ≡ getD u j d ∷ drop (suc j) u → take j u ++ keep t (drop j u) ≡ take j u ++ keep t (drop (suc j) u)
       step e = rw (e, q)
-      more : length (take j u) ≡ j → j ≤ length (take j u ++ drop (j + 1) u)
-      more l = ?
 
   pub keeping-end : length u ≤ j → u ≡ keep t xs
   keeping-end p = sym (sym (a .left) ∙ rw (take-all j u p, drop-of-length-le u {i = j} p, append-nil))
