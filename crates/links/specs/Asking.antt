@@ -2,7 +2,7 @@
 use mathlib.Core.Path.{_≡_, refl, sym, ap, _∙_}
 use mathlib.Core.Bool.{Bool, true, false, not, _&&_, _||_}
 use mathlib.Core.List.{List, [], _∷_, _++_, map, append-assoc, append-nil}
-use Prim.Native.Nat.{ℕ, zero, suc, _+_, _≤_, _<_}
+use Prim.Native.Nat.{ℕ, zero, suc, _+_, _-_, _≤_, _<_}
 use native.Mathlib.Nat.{not-suc-le-zero, le-of-suc-le-suc}
 use native.Mathlib.Numerals.{add-one}
 use native.Mathlib.Omega.{arith}
@@ -10,7 +10,7 @@ use borrow.Author.Needs.{needs}
 use lib.Seq.{drop-cons, take-suc, take-at, drop-at, length-take-le, take-all, drop-drop}
 use lib.ListN.{length, take, drop, getD, drop-of-length-le, length-append}
 use Rattle.rules.specs.Base.{if_then_else_, any, keep}
-use Rattle.laws.specs.Shift.{Kept, erase}
+use Rattle.laws.specs.Shift.{Kept, erase, length-erase}
 use Rattle.laws.specs.Scan.{shows-cons, length-shows}
 
 -- the loop stands at i: the answer o is the answer of what is left
@@ -81,3 +81,16 @@ module _ {B : Type 0} {t : B → Bool} {xs u : List B} {j : ℕ} (a : Keeping t 
 
   pub keeping-end : length u ≤ j → u ≡ keep t xs
   keeping-end p = sym (sym (a .left) ∙ rw (take-all j u p, drop-of-length-le u {i = j} p, append-nil))
+
+-- what one turn of that loop did
+pub record Sifted {B : Type 0} (t : B → Bool) (xs : List B) (j : ℕ) (u : List B) (r : ℕ) : Type 0 where
+  pub keeps : {ys : List B} → Keeping t ys xs j → Keeping t ys u r
+  pub less : length u - r < length xs - j
+
+pub sifted-pass : {B : Type 0} {t : B → Bool} {xs : List B} {j : ℕ} (d : B) → j < length xs → t (getD xs j d) ≡ true → Sifted t xs j xs (j + 1)
+sifted-pass d p q = record { keeps = λ a. keeping-pass a d p q; less = omega arith }
+
+pub sifted-drop : {B : Type 0} {t : B → Bool} {xs u : List B} {j : ℕ} (d : B) → j < length xs → t (getD xs j d) ≡ false → u ≡ erase j xs → Sifted t xs j u j
+sifted-drop {xs = xs} {j = j} d p q e =
+    let l : length (erase j xs) ≡ length xs - 1 = length-erase j xs p in
+    record { keeps = λ a. keeping-drop a d p q e; less = rw (e, l) (omega arith) }

@@ -1,17 +1,20 @@
 -- What link records in memory and by value show, and their canonical form.
 use mathlib.Core.Path.{_≡_, refl, sym, ap, _∙_, subst}
-use mathlib.Core.Bool.{Bool, true, false}
-use mathlib.Core.List.{List, [], _∷_, map}
+use mathlib.Core.Bool.{Bool, true, false, not, _&&_, _||_}
+use mathlib.Core.List.{List, [], _∷_, _++_, map}
 use Prim.Native.Nat.{ℕ, _+_, _*_, _<_}
-use lib.Dec.{eqb, lit≤, lit<}
+use lib.Dec.{eqb, leb, lit≤, lit<}
 use lib.ListN.{length, take, drop, getD, replicate}
-use Rattle.rules.specs.Base.{if_then_else_, Bytes}
-use Rattle.rules.specs.Data.{Pair, Dir, Inbound, Outbound, Holder, ALeg, APeer, Proven, Live, Acked, Probing, PathRec, LinkRec}
+use Rattle.rules.specs.Base.{if_then_else_, option, find, any, keep, Bytes}
+use Rattle.rules.specs.Data.{Pair, samePair, Dir, Inbound, Outbound, Holder, ALeg, APeer, Proven, Live, Acked, Probing, PathRec, LinkRec}
+use Rattle.rules.specs.Links.{numbered, pathAt}
 use Rattle.laws.specs.Shift.{Kept}
 use Rattle.laws.specs.Buffer.{Any, all-any}
 use Rattle.laws.specs.Cell.{num, byteOf, flagOf, textOf, Code, Text}
 use Rattle.laws.specs.Fields.{cuts}
 use Rattle.laws.specs.Store.{Store, entries}
+use Rattle.rules.specs.Field.{digits}
+use Rattle.node_addr.specs.declared.Pair as pair
 use Rattle.node_addr.specs.View.{viewPair, FitPair, blankPair, fit-blank-pair}
 use Rattle.links.specs.declared.record.Dir as dirs
 use Rattle.links.specs.declared.record.Dir.the-variants as dirv
@@ -27,6 +30,9 @@ pairOf c = record { transport = num (take 4 c); addr = textOf (take 1 (drop 4 c)
 
 pub record FitCell (c : Bytes) : Type 0 where
   pub text : Text 48 (take 1 (drop 4 c)) (take 48 (drop 5 c))
+
+abbrev pub pairCell : pair.Pair → Bytes
+pairCell p = digits 4 (p .transport .0) ++ (p .addr .len ∷ []) ++ p .addr .bytes
 
 -- ---- a path in memory: pair 53, state 1 (0 Live, 1 Acked, 2 Probing)
 abbrev pub stateOf : ℕ → Proven
@@ -48,6 +54,15 @@ FitPaths s = Store FitPath 54 4 s
 
 abbrev pub pathCount : Bytes → ℕ
 pathCount s = getD s 216 0
+
+abbrev pub noPath : PathRec
+noPath = record { pair = record { transport = 0; addr = [] }; state = Live }
+
+abbrev pub newPath : Pair → Proven → PathRec
+newPath p v = record { pair = p; state = v }
+
+abbrev pub inState : Proven → PathRec → PathRec
+inState v w = record { pair = w .pair; state = v }
 
 -- ---- a link in memory: no 8, setup 53, dir 1 (0 Inbound, 1 Outbound), holder 17 (1 and zeros: a leg; 0 and the peer), released 1, paths 217
 abbrev pub linkWs : List ℕ
@@ -100,7 +115,36 @@ linkCount s = getD s 9504 0
 abbrev pub noLink : LinkRec
 noLink = record { no = 0; setup = record { transport = 0; addr = [] }; dir = Inbound; holder = ALeg; paths = []; released = false }
 
+-- the record with other paths, or another flag
+abbrev pub withPaths : List PathRec → LinkRec → LinkRec
+withPaths l r = record { no = r .no; setup = r .setup; dir = r .dir; holder = r .holder; paths = l; released = r .released }
+
+abbrev pub withReleased : Bool → LinkRec → LinkRec
+withReleased b r = record { no = r .no; setup = r .setup; dir = r .dir; holder = r .holder; paths = r .paths; released = b }
+
+-- the two halves of a release
+abbrev pub markedAt : Pair → LinkRec → LinkRec
+markedAt p r = withReleased (r .released || samePair p (r .setup)) r
+
+abbrev pub cutAt : Pair → LinkRec → LinkRec
+cutAt p r = withPaths (keep (λ w. not (pathAt p w)) (r .paths)) r
+
+-- whether a path at the pair would be a fifth
+abbrev pub full : Pair → List PathRec → Bool
+full p s = not (any (pathAt p) s) && leb 4 (length s)
+
+unfoldable pub crowding : ℕ → Pair → List LinkRec → Bool
+crowding n p s = option (find (numbered n) s) false λ r. full p (r .paths)
+
+abbrev pub outward : Dir → Bool
+outward Inbound = false
+outward Outbound = true
+
 -- ---- by value
+abbrev pub dirCode : Dir → ℕ
+dirCode Inbound = 0
+dirCode Outbound = 1
+
 abbrev pub viewDir : dirs.Dir → Dir
 viewDir dirv.Inbound = Inbound
 viewDir dirv.Outbound = Outbound
