@@ -10,10 +10,11 @@ use node_addr::Found;
 use node_addr::LinkNo;
 use node_addr::Pair;
 use node_addr::blank_pair;
+use node_addr::same::same_pair;
 ghost use mathlib.Core.Path.{_≡_};
 ghost use mathlib.Core.Bool.{not};
 ghost use mathlib.Core.List.{[], _∷_, _++_};
-ghost use Prim.Native.Nat.{_<_};
+ghost use Prim.Native.Nat.{_+_, _≤_, _<_};
 ghost use Rattle.rules.specs.Base.{if_then_else_, any, keep};
 ghost use Rattle.rules.specs.Data.{samePair};
 ghost use Rattle.rules.specs.Links.{inUse, addresses, retired, retiring, released, releasing};
@@ -22,6 +23,7 @@ ghost use Rattle.links.specs.View.{FitLinks, viewLinks, FitRec, viewLink
 
 fn no_closes() -> Closes
     ensures { λ r. ⌜ FitCloses r ⌝ }
+    ensures { λ r. ⌜ r .len ≡ 0 ⌝ }
     ensures { λ r. ⌜ viewCloses r ≡ [] ⌝ }
 {
     let b = blank_pair();
@@ -54,6 +56,7 @@ fn push(l: Closes, p: Pair) -> Closes
     requires { ⌜ l .len < 5 ⌝ }
     requires { ⌜ FitPair p ⌝ }
     ensures { λ r. ⌜ FitCloses r ⌝ }
+    ensures { λ r. ⌜ r .len ≡ l .len + 1 ⌝ }
     ensures { λ r. ⌜ viewCloses r ≡ viewCloses l ++ (viewPair p ∷ []) ⌝ }
 {
     let mut out = l;
@@ -69,6 +72,7 @@ fn list_once(l: Closes, p: Pair) -> Closes
     requires { ⌜ l .len < 5 ⌝ }
     requires { ⌜ FitPair p ⌝ }
     ensures { λ r. ⌜ FitCloses r ⌝ }
+    ensures { λ r. ⌜ r .len ≤ l .len + 1 ⌝ }
     ensures { λ r. ⌜ viewCloses r ≡ (if any (samePair (viewPair p)) (viewCloses l) then viewCloses l else (viewCloses l ++ (viewPair p ∷ []))) ⌝ }
 {
     if listed(l, p) { l } else { push(l, p) }
@@ -100,6 +104,7 @@ fn list_unused(s: &[u8], l: Closes, p: Pair) -> Closes
     requires { ⌜ l .len < 5 ⌝ }
     requires { ⌜ FitPair p ⌝ }
     ensures { λ r. ⌜ FitCloses r ⌝ }
+    ensures { λ r. ⌜ r .len ≤ l .len + 1 ⌝ }
     ensures { λ r. ⌜ viewCloses r ≡ (if not (inUse (viewPair p) (viewLinks (now (s .entry)))) then (viewCloses l ++ (viewPair p ∷ [])) else viewCloses l) ⌝ }
 {
     if in_use(s, p) { l } else { push(l, p) }
