@@ -3,12 +3,12 @@ use mathlib.Core.Path.{_≡_, refl, sym, ap, _∙_}
 use mathlib.Core.Bool.{Bool, true, false, _&&_}
 use mathlib.Core.List.{List, [], _∷_, _++_}
 use Prim.Native.Nat.{ℕ, zero, suc, _+_, _*_, _≤_, _<_}
-use native.Mathlib.Nat.{not-suc-le-zero, le-of-suc-le-suc}
+use native.Mathlib.Nat.{add-zero}
 use native.Mathlib.Omega.{arith}
 use borrow.Author.Needs.{needs}
 use borrow.Author.Tests.{eqb-true, eq-eqb, ne-eqb, lt-ltb, le-ltb, eqb-false, ltb-true, ltb-false}
-use lib.Dec.{eqb, ltb}
-use lib.Seq.{take-take, take-add, take-nil, drop-drop, length-take-le, take-all}
+use lib.Dec.{eqb, ltb, lit<}
+use lib.Seq.{getD-take, getD-drop, take-take, take-add, take-nil, drop-drop, length-take-le, take-all}
 use lib.ListN.{length, take, drop, getD, length-take, length-drop, take-append-drop}
 use mir.Syntax.{w8}
 use mir.Val.{Fits}
@@ -34,6 +34,10 @@ part-of zero w m u h = take-take w m u (omega arith)
 part-of (suc o) w zero u h = absurd (omega arith)
 part-of (suc o) w (suc m) [] h = refl
 part-of (suc o) w (suc m) (x ∷ u) h = part-of o w m u (omega arith)
+
+-- a byte is a part of one byte
+pub byte-here : (s : Bytes) (at : ℕ) → getD s at 0 ≡ getD (take 1 (drop at s)) 0 0
+byte-here s at = sym (getD-take 1 (drop at s) 0 0 (lit< tt) ∙ getD-drop at s 0 0 ∙ ap (λ (i : ℕ). getD s i 0) (add-zero at))
 
 word-of : (n : ℕ) (s : Bytes) (at i : ℕ) → i < n → take 8 (drop (i * 8) (take (n * 8) (drop at s))) ≡ take 8 (drop (at + i * 8) s)
 word-of n s at i p = part-of (i * 8) 8 (n * 8) (drop at s) (omega arith) ∙ rw (drop-drop (i * 8) at s)
@@ -88,6 +92,12 @@ same-differ x y e q = let z : _≡_ {A = Bool} true false = sym (same-yes x y q)
 -- arrays taken whole
 pub same-whole : {r : Bool} (n : ℕ) (x y : Bytes) → length x ≡ n → length y ≡ n → r ≡ same (take n x) (take n y) → r ≡ same x y
 same-whole n x y h k e = e ∙ rw (take-all n x (omega arith), take-all n y (omega arith))
+
+pub same-front : {r : Bool} (n : ℕ) (x y : Bytes) → length x ≡ n → r ≡ same (take n x) y → r ≡ same x y
+same-front n x y h e = e ∙ rw (take-all n x (omega arith))
+
+pub before-front : {r : Bool} (n : ℕ) (x y : Bytes) → length x ≡ n → r ≡ before (take n x) y → r ≡ before x y
+before-front n x y h e = e ∙ rw (take-all n x (omega arith))
 
 pub before-whole : {r : Bool} (n : ℕ) (x y : Bytes) → length x ≡ n → length y ≡ n → r ≡ before (take n x) (take n y) → r ≡ before x y
 before-whole n x y h k e = e ∙ rw (take-all n x (omega arith), take-all n y (omega arith))
