@@ -49,17 +49,25 @@ pub and-false : (b : Bool) → (b && false) ≡ false
 and-false true = refl
 and-false false = refl
 
+pub not-true : (b : Bool) → not b ≡ true → b ≡ false
+not-true true e = cc
+not-true false e = refl
+
+pub not-false : (b : Bool) → not b ≡ false → b ≡ true
+not-false true e = refl
+not-false false e = cc
+
 -- ---- a loop that drops, in place, what does not pass: it stands at j of the list u, which was xs
-pub record Keeping {B : Type 0} (t : B → Bool) (xs u : List B) (j : ℕ) : Type 0 where
+pub record Sifting {B : Type 0} (t : B → Bool) (xs u : List B) (j : ℕ) : Type 0 where
   pub within : j ≤ length u
   pub left : take j u ++ keep t (drop j u) ≡ keep t xs
 
-pub keeping-start : {B : Type 0} (t : B → Bool) (xs : List B) → Keeping t xs xs 0
-keeping-start t xs = record { within = omega arith; left = refl }
+pub sifting-start : {B : Type 0} (t : B → Bool) (xs : List B) → Sifting t xs xs 0
+sifting-start t xs = record { within = omega arith; left = refl }
 
-module _ {B : Type 0} {t : B → Bool} {xs u : List B} {j : ℕ} (a : Keeping t xs u j) where
-  pub keeping-pass : (d : B) → j < length u → t (getD u j d) ≡ true → Keeping t xs u (j + 1)
-  keeping-pass d p q = record {
+module _ {B : Type 0} {t : B → Bool} {xs u : List B} {j : ℕ} (a : Sifting t xs u j) where
+  pub sifting-pass : (d : B) → j < length u → t (getD u j d) ≡ true → Sifting t xs u (j + 1)
+  sifting-pass d p q = record {
     within = omega arith;
     left = rw (add-one, take-suc u j d p) (append-assoc (take j u) (getD u j d ∷ []) (keep t (drop (suc j) u)) ∙ sym (step (drop-cons u j d p)) ∙ a .left);
   }
@@ -67,9 +75,9 @@ module _ {B : Type 0} {t : B → Bool} {xs u : List B} {j : ℕ} (a : Keeping t 
       step : drop j u ≡ getD u j d ∷ drop (suc j) u → take j u ++ keep t (drop j u) ≡ take j u ++ (getD u j d ∷ keep t (drop (suc j) u))
       step e = rw (e, q)
 
-  pub keeping-drop : (d : B) {v : List B} → j < length u → t (getD u j d) ≡ false → v ≡ erase j u → Keeping t xs v j
+  pub sifting-drop : (d : B) {v : List B} → j < length u → t (getD u j d) ≡ false → v ≡ erase j u → Sifting t xs v j
   unfolding erase
-  keeping-drop d p q e =
+  sifting-drop d p q e =
       let l : length (take j u) ≡ j = length-take-le j u (omega arith) in
       record {
         within = rw (e, length-append) (omega arith);
@@ -79,18 +87,20 @@ module _ {B : Type 0} {t : B → Bool} {xs u : List B} {j : ℕ} (a : Keeping t 
       step : drop j u ≡ getD u j d ∷ drop (suc j) u → take j u ++ keep t (drop j u) ≡ take j u ++ keep t (drop (suc j) u)
       step e = rw (e, q)
 
-  pub keeping-end : length u ≤ j → u ≡ keep t xs
-  keeping-end p = sym (sym (a .left) ∙ rw (take-all j u p, drop-of-length-le u {i = j} p, append-nil))
+  pub sifting-end : length u ≤ j → u ≡ keep t xs
+  sifting-end p = sym (sym (a .left) ∙ rw (take-all j u p, drop-of-length-le u {i = j} p, append-nil))
 
 -- what one turn of that loop did
 pub record Sifted {B : Type 0} (t : B → Bool) (xs : List B) (j : ℕ) (u : List B) (r : ℕ) : Type 0 where
-  pub keeps : {ys : List B} → Keeping t ys xs j → Keeping t ys u r
+  pub keeps : {ys : List B} → Sifting t ys xs j → Sifting t ys u r
   pub less : length u - r < length xs - j
 
 pub sifted-pass : {B : Type 0} {t : B → Bool} {xs : List B} {j : ℕ} (d : B) → j < length xs → t (getD xs j d) ≡ true → Sifted t xs j xs (j + 1)
-sifted-pass d p q = record { keeps = λ a. keeping-pass a d p q; less = omega arith }
+sifted-pass d p q = record { keeps = λ a. sifting-pass a d p q; less = omega arith }
 
 pub sifted-drop : {B : Type 0} {t : B → Bool} {xs u : List B} {j : ℕ} (d : B) → j < length xs → t (getD xs j d) ≡ false → u ≡ erase j xs → Sifted t xs j u j
 sifted-drop {xs = xs} {j = j} d p q e =
     let l : length (erase j xs) ≡ length xs - 1 = length-erase j xs p in
-    record { keeps = λ a. keeping-drop a d p q e; less = rw (e, l) (omega arith) }
+    record { keeps = λ a. sifting-drop a d p q e; less = rw (e, l) (omega arith) }
+
+pub ruleset asking = (needs, ask-start, ask-hit, ask-skip, ask-end)

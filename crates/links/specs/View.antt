@@ -13,8 +13,7 @@ use Rattle.laws.specs.Buffer.{Any, all-any}
 use Rattle.laws.specs.Cell.{num, byteOf, flagOf, textOf, Code, Text}
 use Rattle.laws.specs.Fields.{cuts}
 use Rattle.laws.specs.Store.{Store, entries}
-use Rattle.rules.specs.Field.{digits}
-use Rattle.node_addr.specs.declared.Pair as pair
+use Rattle.node_addr.specs.Place.{pairOf, PairCell, pair-zeros}
 use Rattle.node_addr.specs.View.{viewPair, FitPair, blankPair, fit-blank-pair}
 use Rattle.links.specs.declared.record.Dir as dirs
 use Rattle.links.specs.declared.record.Dir.the-variants as dirv
@@ -24,16 +23,6 @@ use Rattle.links.specs.declared.record.Path as path
 use Rattle.links.specs.declared.record.LinkRec as linkrec
 use Rattle.links.specs.declared.record.Closes as closes
 
--- ---- a pair in memory
-abbrev pub pairOf : Bytes → Pair
-pairOf c = record { transport = num (take 4 c); addr = textOf (take 1 (drop 4 c)) (take 48 (drop 5 c)) }
-
-pub record FitCell (c : Bytes) : Type 0 where
-  pub text : Text 48 (take 1 (drop 4 c)) (take 48 (drop 5 c))
-
-abbrev pub pairCell : pair.Pair → Bytes
-pairCell p = digits 4 (p .transport .0) ++ (p .addr .len ∷ []) ++ p .addr .bytes
-
 -- ---- a path in memory: pair 53, state 1 (0 Live, 1 Acked, 2 Probing)
 abbrev pub stateOf : ℕ → Proven
 stateOf b = if eqb b 0 then Live else (if eqb b 1 then Acked else Probing)
@@ -42,7 +31,7 @@ abbrev pub pathOf : Bytes → PathRec
 pathOf c = record { pair = pairOf (take 53 c); state = stateOf (byteOf (take 1 (drop 53 c))) }
 
 pub record FitPath (c : Bytes) : Type 0 where
-  pub pair : FitCell (take 53 c)
+  pub pair : PairCell (take 53 c)
   pub state : Code 3 (take 1 (drop 53 c))
 
 -- the paths of a link: 4 of 54 bytes, and their count
@@ -93,7 +82,7 @@ pub record FitHolder (c : Bytes) : Type 0 where
   pub blank : flagOf (take 1 c) ≡ true → take 16 (drop 1 c) ≡ replicate 16 0
 
 pub record FitFields (fs : List Bytes) : Type 0 where
-  pub setup : FitCell (getD fs 1 [])
+  pub setup : PairCell (getD fs 1 [])
   pub dir : Code 2 (getD fs 2 [])
   pub holder : FitHolder (getD fs 3 [])
   pub released : Code 2 (getD fs 4 [])

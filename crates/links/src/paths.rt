@@ -1,7 +1,4 @@
 // A link's paths in lent memory: 4 of 54 bytes in the order they came, and their count.
-use crate::cell::load_pair;
-use crate::cell::pair_here;
-use crate::cell::put_pair;
 use crate::record::Path;
 use crate::record::Proven;
 use memory::read::get_byte;
@@ -10,6 +7,9 @@ use memory::write::put_byte;
 use node_addr::Found;
 use node_addr::Pair;
 use node_addr::blank_pair;
+use node_addr::place::load_pair;
+use node_addr::place::pair_here;
+use node_addr::place::put_pair;
 ghost use mathlib.Core.Path.{_≡_};
 ghost use mathlib.Core.Bool.{false, not};
 ghost use mathlib.Core.List.{List, [], _∷_, _++_, map};

@@ -1,6 +1,4 @@
 // Link records read where they stand.
-use crate::cell::load_pair;
-use crate::cell::pair_here;
 use crate::paths::full_for;
 use crate::paths::load_paths;
 use crate::paths::proves;
@@ -13,6 +11,8 @@ use node_addr::Found;
 use node_addr::LinkNo;
 use node_addr::NodeAddr;
 use node_addr::Pair;
+use node_addr::place::load_pair;
+use node_addr::place::pair_here;
 ghost use mathlib.Core.Path.{_≡_};
 ghost use mathlib.Core.Bool.{not, _&&_, _||_};
 ghost use Prim.Native.Nat.{_+_, _*_, _≤_, _<_};

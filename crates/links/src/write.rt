@@ -1,5 +1,4 @@
 // Link records changed where they stand.
-use crate::cell::put_pair;
 use crate::paths::drop_paths;
 use crate::paths::put_path;
 use crate::read::find_link;
@@ -16,6 +15,7 @@ use node_addr::Found;
 use node_addr::LinkNo;
 use node_addr::NodeAddr;
 use node_addr::Pair;
+use node_addr::place::put_pair;
 ghost use mathlib.Core.Path.{_≡_};
 ghost use mathlib.Core.Bool.{false, _||_};
 ghost use mathlib.Core.List.{[], _∷_, _++_};
