@@ -3,14 +3,14 @@ use mathlib.Core.Path.{_≡_, refl, sym, ap, _∙_}
 use mathlib.Core.Bool.{Bool, true, false, not, _&&_, _||_}
 use mathlib.Core.List.{List, [], _∷_, _++_, map, append-assoc, append-nil}
 use Prim.Native.Nat.{ℕ, zero, suc, _+_, _-_, _≤_, _<_}
-use native.Mathlib.Nat.{not-suc-le-zero, le-of-suc-le-suc}
+use native.Mathlib.Nat.{sub-zero}
 use native.Mathlib.Numerals.{add-one}
 use native.Mathlib.Omega.{arith}
 use borrow.Author.Needs.{needs}
 use lib.Seq.{drop-cons, take-suc, take-at, drop-at, length-take-le, take-all, drop-drop}
-use lib.ListN.{length, take, drop, getD, drop-of-length-le, length-append}
+use lib.ListN.{length, take, drop, getD, set, replicate, drop-of-length-le, length-append, length-replicate}
 use Rattle.rules.specs.Base.{if_then_else_, any, keep}
-use Rattle.laws.specs.Shift.{Kept, erase, length-erase}
+use Rattle.laws.specs.Shift.{Kept, erase, length-erase, pushed, all-replicate}
 use Rattle.laws.specs.Scan.{shows-cons, length-shows}
 
 -- the loop stands at i: the answer o is the answer of what is left
@@ -104,3 +104,37 @@ sifted-drop {xs = xs} {j = j} d p q e =
     record { keeps = λ a. sifting-drop a d p q e; less = rw (e, l) (omega arith) }
 
 pub ruleset asking = (needs, ask-start, ask-hit, ask-skip, ask-end)
+
+-- ---- a loop that loads n values, of which the list xs is shown
+pub record Loading {A B : Type 0} (f : A → B) (P : A → Type 0) (b : A) (cap n : ℕ) (xs : List B) (j : ℕ) (l : List A) : Type 0 where
+  pub within : j ≤ n
+  pub count : length xs ≡ n
+  pub space : n ≤ cap
+  pub kept : Kept P b cap j l
+  pub shows : map f (take j l) ≡ take j xs
+
+module _ {A B : Type 0} {f : A → B} {P : A → Type 0} {b : A} {cap n : ℕ} {xs : List B} {j : ℕ} {l : List A} (a : Loading f P b cap n xs j l) where
+  pub loading-turn : (d : B) {v : A} → j < n → P v → f v ≡ getD xs j d → Loading f P b cap n xs (j + 1) (set l j v)
+  loading-turn d {v} p q e =
+      let r = pushed f j v (a .kept) q (omega arith) in
+      record {
+        within = omega arith;
+        count = a .count;
+        space = a .space;
+        kept = r .0;
+        shows = r .1 ∙ rw (a .shows, e, add-one) (sym (take-suc xs j d (omega arith)));
+      }
+
+  pub loading-end : n ≤ j → Kept P b cap n l × (map f (take n l) ≡ xs)
+  loading-end p =
+      let z : j ≡ n = omega arith in
+      (rw z at (a .kept), (rw z at (a .shows)) ∙ take-all n xs (omega arith))
+
+pub loading-start : {A B : Type 0} (f : A → B) {P : A → Type 0} (b : A) (cap n : ℕ) (xs : List B) → length xs ≡ n → n ≤ cap → P b → Loading f P b cap n xs 0 (replicate cap b)
+loading-start f {P} b cap n xs e h p = record {
+  within = omega arith;
+  count = e;
+  space = h;
+  kept = record { small = omega arith; size = length-replicate cap b; rest = rw sub-zero; each = all-replicate P cap b p };
+  shows = refl;
+}

@@ -13,14 +13,14 @@ use lib.ListN.{length, take, drop, getD, replicate}
 use Rattle.rules.specs.Base.{if_then_else_, Bytes, empty, any}
 use Rattle.rules.specs.Data.{Pair, samePair, Dir, Inbound, Outbound, Holder, ALeg, APeer, Proven, Live, Acked, Probing, PathRec, LinkRec}
 use Rattle.rules.specs.Links.{numbered, counts, isLeg, pathAt, provenAt, uses, indexed}
-use Rattle.laws.specs.Shift.{Kept, shown, fit-at}
+use Rattle.laws.specs.Shift.{Kept, erase, shown, fit-at}
 use Rattle.laws.specs.Cell.{num, byteOf, flagOf}
 use Rattle.laws.specs.Chunk.{chunks}
 use Rattle.laws.specs.Fields.{cuts, cuts-at, field-at, sum}
-use Rattle.laws.specs.Store.{Store, entries}
+use Rattle.laws.specs.Store.{Store, entries, entries-count}
 use Rattle.node_addr.specs.Place.{pairOf, PairCell}
 use Rattle.links.specs.View.{stateOf, pathOf, FitPath, viewPaths, FitPaths, pathCount, linkWs, dirOf, holderOf, linkFrom, linkOf, FitFields, FitLink, viewLinks, FitLinks, linkCount, noLink, noPath, outward}
-use Rattle.links.specs.Asking.{or-true, or-false, and-true, and-false, not-true, not-false}
+use Rattle.links.specs.Asking.{or-true, or-false, and-true, and-false, not-true, not-false, Sifted, sifted-drop, sifted-pass}
 
 module _ {s : Bytes} {i : ℕ} (f : FitLinks s) (h : i < linkCount s) where
   fields-at : cuts (i * 297) 0 linkWs s ≡ cuts 0 0 linkWs (getD (chunks 297 32 s) i [])
@@ -57,6 +57,9 @@ module _ {s : Bytes} {i : ℕ} (f : FitLinks s) (h : i < linkCount s) where
   -- the number, of the chunk
   pub key-here : num (take 8 (drop (i * 297) s)) ≡ linkOf (getD (chunks 297 32 s) i []) .no
   key-here = no-here ∙ sym (ap (λ (r : LinkRec). r .no) (shown linkOf i [] noLink (f .kept) h))
+
+  pub key-is : {b : ℕ} → b ≡ num (take 8 (drop (i * 297) s)) → b ≡ linkOf (getD (chunks 297 32 s) i []) .no
+  key-is e = e ∙ key-here
 
 -- ---- a path
 module _ {s : Bytes} {j : ℕ} (f : FitPaths s) (h : j < pathCount s) where
@@ -221,4 +224,18 @@ module _ {s : Bytes} {j : ℕ} (f : FitPaths s) (h : j < pathCount s) where
   pub path-shown : pathOf (getD (chunks 54 4 s) j []) ≡ getD (viewPaths s) j noPath
   path-shown = shown pathOf j [] noPath (f .kept) h
 
-pub ruleset pathing = (needs, path-cell, path-same, probing-path, counting-path, path-loaded)
+-- one turn of the loop that drops the paths at a pair
+module _ {s : Bytes} {j : ℕ} (f : FitPaths s) (h : j < pathCount s) (x : Pair) {b : Bool} (e : b ≡ samePair x (pairOf (take 53 (drop (j * 54) s)))) where
+  same-shown : b ≡ pathAt x (getD (viewPaths s) j noPath)
+  same-shown = path-same f h x e ∙ ap (pathAt x) (path-shown f h)
+
+  place-shown : j < length (viewPaths s)
+  place-shown = rw (entries-count pathOf f) h
+
+  pub sift-drop : {u : List PathRec} → b ≡ true → u ≡ erase j (viewPaths s) → Sifted (λ w. not (pathAt x w)) (viewPaths s) j u j
+  sift-drop t q = sifted-drop noPath place-shown (rw (← same-shown, t)) q
+
+  pub sift-pass : b ≡ false → Sifted (λ w. not (pathAt x w)) (viewPaths s) j (viewPaths s) (j + 1)
+  sift-pass t = sifted-pass noPath place-shown (rw (← same-shown, t))
+
+pub ruleset pathing = (needs, path-cell, path-same, probing-path, counting-path, path-loaded, sift-drop, sift-pass)

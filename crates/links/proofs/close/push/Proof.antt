@@ -1,20 +1,17 @@
+-- `links::close::push` meets its contract.
+use Rattle.laws.specs.Shift.{pushed}
+use Rattle.node_addr.specs.View.{viewPair}
 use borrow.Author.Needs.{needs}
+use mathlib.Core.Path.{refl}
 use Rattle.links.proofs.close.push.Statement.{statement}
 use Rattle.links.proofs.close.push.Tie as tie
-use Rattle.links.proofs.close.push.Reads as reads
-use Rattle.links.proofs.close.push.Lts as lts
-
-mul-p : tie.Need-mul-p
-mul-p c = search needs
-
-element-set-from-p : tie.Need-element-set-from-p
-element-set-from-p c = search needs
-
-add-out : tie.Need-add-out
-add-out c = search needs
 
 returns : tie.Need-returns
-returns c = search needs
+returns c = let r = pushed viewPair _ _ (c .pre .0) (c .pre .1 .1) (c .pre .1 .0) in (r .0, (refl, r .1))
 
 pub push-spec : {M : Type 1} → statement M
-push-spec = tie.close (tie.spec mul-p element-set-from-p add-out returns)
+push-spec = tie.close (tie.spec
+    (λ c. search needs)
+    (λ c. search needs)
+    (λ c. search needs)
+    returns)

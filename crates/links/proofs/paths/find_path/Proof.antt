@@ -1,59 +1,46 @@
+-- `links::paths::find_path` meets its contract.
+use Prim.Native.Nat.{_-_}
+use Rattle.laws.specs.Chunk.{chunks}
+use Rattle.laws.specs.Scan.{Ahead, scan, scan-end, scan-hit, scan-kept, scan-skip}
+use Rattle.links.specs.Here.{path-same, pathing}
+use Rattle.links.specs.View.{pathOf, viewPaths}
+use Rattle.node_addr.specs.View.{finds-no, finds-some, viewPair}
+use Rattle.rules.specs.Links.{pathAt}
 use borrow.Author.Needs.{needs}
+use mathlib.Core.List.{[]}
+use mathlib.Core.Path.{_∙_, sym}
 use Rattle.links.proofs.paths.find_path.Statement.{statement}
 use Rattle.links.proofs.paths.find_path.Tie as tie
-use Rattle.links.proofs.paths.find_path.Reads as reads
-use Rattle.links.proofs.paths.find_path.Lts as lts
-use Rattle.links.proofs.cell.pair_here.Reads as pair-here-reads
 
 abbrev Inv-loop : tie.InvT-loop
-Inv-loop s p n j₀ j = ?
+Inv-loop s p n j₀ j = Ahead (scan (pathAt (viewPair p)) 0 (viewPaths s)) (pathAt (viewPair p)) pathOf n (chunks 54 4 s) j
 
 abbrev μ-loop : tie.MeasureT-loop
-μ-loop s p n j₀ j = ?
-
-shared-slice-read-n : tie.Need-shared-slice-read-n Inv-loop μ-loop
-shared-slice-read-n c = search needs
-
-cast-n : tie.Need-cast-n Inv-loop μ-loop
-cast-n c = search needs
+μ-loop s p n j₀ j = n - j
 
 loop-holds : tie.Need-loop-holds Inv-loop μ-loop
-loop-holds c = search needs
-
-mul-pair-here : tie.Need-mul-pair-here Inv-loop μ-loop
-mul-pair-here c = search needs
-
-pair-here-requires : tie.Need-pair-here-requires Inv-loop μ-loop
-pair-here-requires c κs = search needs
+loop-holds c = scan-kept _ pathOf (c .before .before .pre .0 .kept)
 
 returns : tie.Need-returns Inv-loop μ-loop
-returns c = search needs
-
-add-j : tie.Need-add-j Inv-loop μ-loop
-add-j c = search needs
-
-loop-less : tie.Need-loop-less Inv-loop μ-loop
-loop-less c = search needs
+returns c = finds-some (scan-hit (c .before .before .before .loop .inv) [] (search needs) (sym (path-same (c .before .before .before .before .before .before .pre .0) (search needs) _ (c .before .pair-here .ensures)) ∙ c .if1 .taken))
 
 loop-again : tie.Need-loop-again Inv-loop μ-loop
-loop-again c = search needs
+loop-again c = scan-skip (c .before .before .before .loop .inv) [] (search needs) (sym (path-same (c .before .before .before .before .before .before .pre .0) (search needs) _ (c .before .pair-here .ensures)) ∙ c .if1 .left)
 
 returns-2 : tie.Need-returns-2 Inv-loop μ-loop
-returns-2 c = search needs
+returns-2 c = finds-no (scan-end (c .before .loop .inv) (search needs))
 
 pub find-path-spec : {M : Type 1} → statement M
-find-path-spec =
-    tie.close
-    (tie.spec
+find-path-spec = tie.close (tie.spec
     Inv-loop
     μ-loop
-    shared-slice-read-n
-    cast-n
+    (λ c. search pathing)
+    (λ c. search pathing)
     loop-holds
-    mul-pair-here
-    pair-here-requires
+    (λ c. search pathing)
+    (λ c κs. search pathing)
     returns
-    add-j
-    loop-less
+    (λ c. search pathing)
+    (λ c. search pathing)
     loop-again
     returns-2)

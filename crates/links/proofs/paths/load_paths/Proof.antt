@@ -1,64 +1,46 @@
+-- `links::paths::load_paths` meets its contract.
+use Prim.Native.Nat.{_-_}
+use Rattle.laws.specs.Store.{entries-count}
+use Rattle.links.specs.Asking.{Loading, loading-end, loading-start, loading-turn}
+use Rattle.links.specs.Here.{path-shown}
+use Rattle.links.specs.View.{FitPathRec, blankPath, noPath, pathOf, viewPath, viewPaths}
+use Rattle.node_addr.specs.View.{fit-blank-pair}
 use borrow.Author.Needs.{needs}
+use mathlib.Core.Path.{_∙_}
+use native.Mathlib.Omega.{arith}
 use Rattle.links.proofs.paths.load_paths.Statement.{statement}
 use Rattle.links.proofs.paths.load_paths.Tie as tie
-use Rattle.links.proofs.paths.load_paths.Reads as reads
-use Rattle.links.proofs.paths.load_paths.Lts as lts
-use Rattle.links.proofs.paths.blank_path.Reads as blank-path-reads
-use Rattle.links.proofs.paths.load_path.Reads as load-path-reads
 
 abbrev Inv-loop : tie.InvT-loop
-Inv-loop s n out₀ j₀ out j = ?
+Inv-loop s n out₀ j₀ out j = Loading viewPath FitPathRec blankPath 4 n (viewPaths s) j out
 
 abbrev μ-loop : tie.MeasureT-loop
-μ-loop s n out₀ j₀ out j = ?
-
-shared-slice-read-n : tie.Need-shared-slice-read-n Inv-loop μ-loop
-shared-slice-read-n c = search needs
-
-cast-n : tie.Need-cast-n Inv-loop μ-loop
-cast-n c = search needs
-
-blank-path-requires : tie.Need-blank-path-requires Inv-loop μ-loop
-blank-path-requires c κs = search needs
+μ-loop s n out₀ j₀ out j = n - j
 
 loop-holds : tie.Need-loop-holds Inv-loop μ-loop
-loop-holds c = search needs
-
-load-path-requires : tie.Need-load-path-requires Inv-loop μ-loop
-load-path-requires c κs = search needs
-
-mul-out : tie.Need-mul-out Inv-loop μ-loop
-mul-out c = search needs
+loop-holds c = rw (c .blank-path .ensures) (loading-start viewPath blankPath 4 _ _ (entries-count pathOf (c .before .before .before .pre)) (c .before .before .before .pre .kept .small) fit-blank-pair)
 
 array-set-from-out : tie.Need-array-set-from-out Inv-loop μ-loop
-array-set-from-out c = search needs
-
-add-j : tie.Need-add-j Inv-loop μ-loop
-add-j c = search needs
-
-loop-less : tie.Need-loop-less Inv-loop μ-loop
-loop-less c = search needs
+array-set-from-out c = omega (arith, c .before .before .loop .inv .kept .size)
 
 loop-again : tie.Need-loop-again Inv-loop μ-loop
-loop-again c = search needs
+loop-again c = loading-turn (c .before .before .loop .inv) noPath (search needs) (c .load-path .ensures .0) (c .load-path .ensures .1 ∙ path-shown (c .before .before .before .before .before .before .pre) (search needs))
 
 returns : tie.Need-returns Inv-loop μ-loop
-returns c = search needs
+returns c = loading-end (c .before .loop .inv) (search needs)
 
 pub load-paths-spec : {M : Type 1} → statement M
-load-paths-spec =
-    tie.close
-    (tie.spec
+load-paths-spec = tie.close (tie.spec
     Inv-loop
     μ-loop
-    shared-slice-read-n
-    cast-n
-    blank-path-requires
+    (λ c. search needs)
+    (λ c. search needs)
+    (λ c κs. search needs)
     loop-holds
-    load-path-requires
-    mul-out
+    (λ c κs. search needs)
+    (λ c. search needs)
     array-set-from-out
-    add-j
-    loop-less
+    (λ c. search needs)
+    (λ c. search needs)
     loop-again
     returns)

@@ -1,55 +1,42 @@
+-- `links::paths::proves` meets its contract.
+use Prim.Native.Nat.{_-_}
+use Rattle.laws.specs.Chunk.{chunks}
+use Rattle.links.specs.Asking.{Asking, ask-hit, ask-skip, ask-start, asking}
+use Rattle.links.specs.View.{pathOf, viewPaths}
+use Rattle.node_addr.specs.View.{viewPair}
+use Rattle.rules.specs.Base.{any}
+use Rattle.rules.specs.Links.{provenAt}
 use borrow.Author.Needs.{needs}
+use mathlib.Core.List.{[]}
+use mathlib.Core.Path.{_∙_, sym}
 use Rattle.links.proofs.paths.proves.Statement.{statement}
 use Rattle.links.proofs.paths.proves.Tie as tie
-use Rattle.links.proofs.paths.proves.Reads as reads
-use Rattle.links.proofs.paths.proves.Lts as lts
-use Rattle.links.proofs.paths.proven_path.Reads as proven-path-reads
 
 abbrev Inv-loop : tie.InvT-loop
-Inv-loop s p n j₀ j = ?
+Inv-loop s p n j₀ j = Asking (any (provenAt (viewPair p)) (viewPaths s)) (provenAt (viewPair p)) pathOf n (chunks 54 4 s) j
 
 abbrev μ-loop : tie.MeasureT-loop
-μ-loop s p n j₀ j = ?
-
-shared-slice-read-n : tie.Need-shared-slice-read-n Inv-loop μ-loop
-shared-slice-read-n c = search needs
-
-cast-n : tie.Need-cast-n Inv-loop μ-loop
-cast-n c = search needs
+μ-loop s p n j₀ j = n - j
 
 loop-holds : tie.Need-loop-holds Inv-loop μ-loop
-loop-holds c = search needs
-
-proven-path-requires : tie.Need-proven-path-requires Inv-loop μ-loop
-proven-path-requires c κs = search needs
+loop-holds c = ask-start _ pathOf (c .before .before .pre .0 .kept)
 
 returns : tie.Need-returns Inv-loop μ-loop
-returns c = search needs
-
-add-j : tie.Need-add-j Inv-loop μ-loop
-add-j c = search needs
-
-loop-less : tie.Need-loop-less Inv-loop μ-loop
-loop-less c = search needs
+returns c = ask-hit (c .before .before .before .loop .inv) [] (search needs) (sym (c .before .proven-path .ensures) ∙ c .if1 .taken)
 
 loop-again : tie.Need-loop-again Inv-loop μ-loop
-loop-again c = search needs
-
-returns-2 : tie.Need-returns-2 Inv-loop μ-loop
-returns-2 c = search needs
+loop-again c = ask-skip (c .before .before .before .loop .inv) [] (search needs) (sym (c .before .proven-path .ensures) ∙ c .if1 .left)
 
 pub proves-spec : {M : Type 1} → statement M
-proves-spec =
-    tie.close
-    (tie.spec
+proves-spec = tie.close (tie.spec
     Inv-loop
     μ-loop
-    shared-slice-read-n
-    cast-n
+    (λ c. search asking)
+    (λ c. search asking)
     loop-holds
-    proven-path-requires
+    (λ c κs. search asking)
     returns
-    add-j
-    loop-less
+    (λ c. search asking)
+    (λ c. search asking)
     loop-again
-    returns-2)
+    (λ c. search asking))

@@ -1,18 +1,16 @@
+-- `links::paths::remove_path` meets its contract.
+use Rattle.laws.specs.Store.{removed-is}
+use Rattle.links.specs.View.{pathOf}
+use Rattle.links.specs.Zeros.{path-zeros}
 use borrow.Author.Needs.{needs}
 use Rattle.links.proofs.paths.remove_path.Statement.{statement}
 use Rattle.links.proofs.paths.remove_path.Tie as tie
-use Rattle.links.proofs.paths.remove_path.Reads as reads
-use Rattle.links.proofs.paths.remove_path.Lts as lts
-use Rattle.memory.proofs.region.remove_chunk.Reads as remove-chunk-reads
-
-remove-chunk-requires : tie.Need-remove-chunk-requires
-remove-chunk-requires c κs = search needs
-
-same-length : tie.Need-same-length
-same-length c = search needs
 
 returns : tie.Need-returns
-returns c = search needs
+returns c = removed-is pathOf (search needs) (search needs) path-zeros (c .before .before .remove-chunk .ensures)
 
 pub remove-path-spec : {M : Type 1} → statement M
-remove-path-spec = tie.close (tie.spec remove-chunk-requires same-length returns)
+remove-path-spec = tie.close (tie.spec
+    (λ c κs. search needs)
+    (λ c. search needs)
+    returns)

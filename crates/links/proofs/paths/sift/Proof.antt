@@ -1,44 +1,26 @@
+-- `links::paths::sift` meets its contract.
+use Rattle.links.specs.Here.{path-cell, pathing, sift-drop, sift-pass}
+use Rattle.node_addr.specs.View.{viewPair}
 use borrow.Author.Needs.{needs}
 use Rattle.links.proofs.paths.sift.Statement.{statement}
 use Rattle.links.proofs.paths.sift.Tie as tie
-use Rattle.links.proofs.paths.sift.Reads as reads
-use Rattle.links.proofs.paths.sift.Lts as lts
-use Rattle.links.proofs.cell.pair_here.Reads as pair-here-reads
-use Rattle.links.proofs.paths.remove_path.Reads as remove-path-reads
-
-mul-pair-here : tie.Need-mul-pair-here
-mul-pair-here c = search needs
 
 pair-here-requires : tie.Need-pair-here-requires
-pair-here-requires c κs = search needs
-
-remove-path-requires : tie.Need-remove-path-requires
-remove-path-requires c κs = search needs
-
-same-length : tie.Need-same-length
-same-length c = search needs
+pair-here-requires c κs = (search needs, (search needs, path-cell (c .before .before .pre .0) (search needs)))
 
 returns : tie.Need-returns
-returns c = search needs
-
-add-result : tie.Need-add-result
-add-result c = search needs
-
-same-length-2 : tie.Need-same-length-2
-same-length-2 c = search needs
+returns c = (c .before .before .remove-path .ensures .0, sift-drop (c .before .before .before .before .before .before .before .before .pre .0) (search needs) (viewPair (c .before .before .before .before .before .before .before .before .args .p)) (c .before .before .before .before .before .pair-here .ensures) (c .before .before .before .before .if1 .taken) (c .before .before .remove-path .ensures .1))
 
 returns-2 : tie.Need-returns-2
-returns-2 c = search needs
+returns-2 c = (search needs, sift-pass (c .before .before .before .before .pre .0) (search needs) (viewPair (c .before .before .before .before .args .p)) (c .before .pair-here .ensures) (c .if1 .left))
 
 pub sift-spec : {M : Type 1} → statement M
-sift-spec =
-    tie.close
-    (tie.spec
-    mul-pair-here
+sift-spec = tie.close (tie.spec
+    (λ c. search pathing)
     pair-here-requires
-    remove-path-requires
-    same-length
+    (λ c κs. search pathing)
+    (λ c. search pathing)
     returns
-    add-result
-    same-length-2
+    (λ c. search pathing)
+    (λ c. search pathing)
     returns-2)

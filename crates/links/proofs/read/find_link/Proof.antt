@@ -1,59 +1,47 @@
+-- `links::read::find_link` meets its contract.
+use Prim.Native.Nat.{_-_}
+use Rattle.laws.specs.Chunk.{chunks}
+use Rattle.laws.specs.Scan.{Ahead, scan, scan-end, scan-hit, scan-kept, scan-skip}
+use Rattle.links.specs.Here.{key-is}
+use Rattle.links.specs.View.{linkOf, viewLinks}
+use Rattle.node_addr.specs.View.{finds-no, finds-some}
+use Rattle.rules.specs.Links.{numbered}
 use borrow.Author.Needs.{needs}
+use borrow.Author.Tests.{eq-eqb, ne-eqb}
+use mathlib.Core.List.{[]}
+use mathlib.Core.Path.{_∙_, sym}
 use Rattle.links.proofs.read.find_link.Statement.{statement}
 use Rattle.links.proofs.read.find_link.Tie as tie
-use Rattle.links.proofs.read.find_link.Reads as reads
-use Rattle.links.proofs.read.find_link.Lts as lts
-use Rattle.memory.proofs.read.get_be.Reads as get-be-reads
 
 abbrev Inv-loop : tie.InvT-loop
-Inv-loop s key len i₀ i = ?
+Inv-loop s key len i₀ i = Ahead (scan (numbered key) 0 (viewLinks s)) (numbered key) linkOf len (chunks 297 32 s) i
 
 abbrev μ-loop : tie.MeasureT-loop
-μ-loop s key len i₀ i = ?
-
-shared-slice-read-len : tie.Need-shared-slice-read-len Inv-loop μ-loop
-shared-slice-read-len c = search needs
-
-cast-len : tie.Need-cast-len Inv-loop μ-loop
-cast-len c = search needs
+μ-loop s key len i₀ i = len - i
 
 loop-holds : tie.Need-loop-holds Inv-loop μ-loop
-loop-holds c = search needs
-
-mul-get-be : tie.Need-mul-get-be Inv-loop μ-loop
-mul-get-be c = search needs
-
-get-be-requires : tie.Need-get-be-requires Inv-loop μ-loop
-get-be-requires c κs = search needs
+loop-holds c = scan-kept _ linkOf (c .before .before .pre .kept)
 
 returns : tie.Need-returns Inv-loop μ-loop
-returns c = search needs
-
-add-i : tie.Need-add-i Inv-loop μ-loop
-add-i c = search needs
-
-loop-less : tie.Need-loop-less Inv-loop μ-loop
-loop-less c = search needs
+returns c = finds-some (scan-hit (c .before .before .before .loop .inv) [] (search needs) (eq-eqb _ _ (c .if1 .taken ∙ key-is (c .before .before .before .before .before .before .pre) (search needs) (c .before .get-be .ensures .0))))
 
 loop-again : tie.Need-loop-again Inv-loop μ-loop
-loop-again c = search needs
+loop-again c = scan-skip (c .before .before .before .loop .inv) [] (search needs) (ne-eqb _ _ (λ e. c .if1 .left (e ∙ sym (key-is (c .before .before .before .before .before .before .pre) (search needs) (c .before .get-be .ensures .0)))))
 
 returns-2 : tie.Need-returns-2 Inv-loop μ-loop
-returns-2 c = search needs
+returns-2 c = finds-no (scan-end (c .before .loop .inv) (search needs))
 
 pub find-link-spec : {M : Type 1} → statement M
-find-link-spec =
-    tie.close
-    (tie.spec
+find-link-spec = tie.close (tie.spec
     Inv-loop
     μ-loop
-    shared-slice-read-len
-    cast-len
+    (λ c. search needs)
+    (λ c. search needs)
     loop-holds
-    mul-get-be
-    get-be-requires
+    (λ c. search needs)
+    (λ c κs. search needs)
     returns
-    add-i
-    loop-less
+    (λ c. search needs)
+    (λ c. search needs)
     loop-again
     returns-2)

@@ -1,21 +1,11 @@
-use borrow.Author.Needs.{needs}
+-- `links::read::released_at` meets its contract.
+use Rattle.links.specs.Here.{reading}
 use Rattle.links.proofs.read.released_at.Statement.{statement}
 use Rattle.links.proofs.read.released_at.Tie as tie
-use Rattle.links.proofs.read.released_at.Reads as reads
-use Rattle.links.proofs.read.released_at.Lts as lts
-use Rattle.memory.proofs.read.get_byte.Reads as get-byte-reads
-
-mul-get-byte : tie.Need-mul-get-byte
-mul-get-byte c = search needs
-
-add-get-byte : tie.Need-add-get-byte
-add-get-byte c = search needs
-
-get-byte-requires : tie.Need-get-byte-requires
-get-byte-requires c κs = search needs
-
-returns : tie.Need-returns
-returns c = search needs
 
 pub released-at-spec : {M : Type 1} → statement M
-released-at-spec = tie.close (tie.spec mul-get-byte add-get-byte get-byte-requires returns)
+released-at-spec = tie.close (tie.spec
+    (λ c. search reading)
+    (λ c. search reading)
+    (λ c κs. search reading)
+    (λ c. search reading))

@@ -1,30 +1,18 @@
+-- `links::write::hold_at` meets its contract.
+use Rattle.laws.specs.Splice.{wrote-then}
+use Rattle.links.specs.Change.{held-is}
 use borrow.Author.Needs.{needs}
 use Rattle.links.proofs.write.hold_at.Statement.{statement}
 use Rattle.links.proofs.write.hold_at.Tie as tie
-use Rattle.links.proofs.write.hold_at.Reads as reads
-use Rattle.links.proofs.write.hold_at.Lts as lts
-use Rattle.memory.proofs.write.put_16.Reads as put-16-reads
-use Rattle.memory.proofs.write.put_byte.Reads as put-byte-reads
-
-mul-put-byte : tie.Need-mul-put-byte
-mul-put-byte c = search needs
-
-add-put-byte : tie.Need-add-put-byte
-add-put-byte c = search needs
-
-put-byte-requires : tie.Need-put-byte-requires
-put-byte-requires c κs = search needs
-
-put-16-requires : tie.Need-put-16-requires
-put-16-requires c κs = search needs
-
-same-length : tie.Need-same-length
-same-length c = search needs
 
 returns : tie.Need-returns
-returns c = search needs
+returns c = held-is (wrote-then (c .before .before .before .before .before .before .put-byte .ensures) (c .before .before .put-16 .ensures)) (search needs) (search needs) (search needs)
 
 pub hold-at-spec : {M : Type 1} → statement M
-hold-at-spec =
-    tie.close
-    (tie.spec mul-put-byte add-put-byte put-byte-requires put-16-requires same-length returns)
+hold-at-spec = tie.close (tie.spec
+    (λ c. search needs)
+    (λ c. search needs)
+    (λ c κs. search needs)
+    (λ c κs. search needs)
+    (λ c. search needs)
+    returns)

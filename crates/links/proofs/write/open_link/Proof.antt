@@ -1,71 +1,33 @@
+-- `links::write::open_link` meets its contract.
+use Rattle.laws.specs.Splice.{wrote-then}
+use Rattle.laws.specs.Store.{pushed-is}
+use Rattle.links.specs.Change.{opened-fit, opened-shows}
+use Rattle.links.specs.View.{linkOf, viewDir}
 use borrow.Author.Needs.{needs}
+use lib.ListN.{length-set}
+use native.Mathlib.Omega.{arith}
 use Rattle.links.proofs.write.open_link.Statement.{statement}
 use Rattle.links.proofs.write.open_link.Tie as tie
-use Rattle.links.proofs.write.open_link.Reads as reads
-use Rattle.links.proofs.write.open_link.Lts as lts
-use Rattle.links.proofs.cell.put_pair.Reads as put-pair-reads
-use Rattle.links.proofs.write.dir_code.Reads as dir-code-reads
-use Rattle.memory.proofs.write.clear.Reads as clear-reads
-use Rattle.memory.proofs.write.put_be.Reads as put-be-reads
-use Rattle.memory.proofs.write.put_byte.Reads as put-byte-reads
-
-slice-read-len : tie.Need-slice-read-len
-slice-read-len c = search needs
-
-cast-len : tie.Need-cast-len
-cast-len c = search needs
-
-dir-code-requires : tie.Need-dir-code-requires
-dir-code-requires c κs = search needs
-
-mul-put-be : tie.Need-mul-put-be
-mul-put-be c = search needs
-
-put-be-requires : tie.Need-put-be-requires
-put-be-requires c κs = search needs
-
-put-pair-requires : tie.Need-put-pair-requires
-put-pair-requires c κs = search needs
-
-put-byte-requires : tie.Need-put-byte-requires
-put-byte-requires c κs = search needs
-
-put-byte-requires-2 : tie.Need-put-byte-requires-2
-put-byte-requires-2 c κs = search needs
-
-clear-requires : tie.Need-clear-requires
-clear-requires c κs = search needs
-
-add-s : tie.Need-add-s
-add-s c = search needs
-
-cast-s : tie.Need-cast-s
-cast-s c = search needs
-
-slice-write-s : tie.Need-slice-write-s
-slice-write-s c = search needs
 
 same-length : tie.Need-same-length
-same-length c = search needs
+same-length c = simp length-set (omega arith)
 
 returns : tie.Need-returns
-returns c = search needs
+returns c = let d = c .before .before .before .before .before .before .before .before .before .before .before .before .before .before .before .before .before .before .before .before .dir-code .ensures in let v = viewDir (c .before .before .before .before .before .before .before .before .before .before .before .before .before .before .before .before .before .before .before .before .before .before .before .args .d) in pushed-is linkOf (search needs) (search needs) (wrote-then (wrote-then (wrote-then (wrote-then (c .before .before .before .before .before .before .before .before .before .before .before .before .before .before .before .before .before .before .put-be .ensures) (c .before .before .before .before .before .before .before .before .before .before .before .before .before .before .put-pair .ensures)) (c .before .before .before .before .before .before .before .before .before .before .put-byte .ensures)) (c .before .before .before .before .before .before .put-byte2 .ensures)) (c .before .before .clear .ensures)) (rw d (opened-fit _ v (search needs))) (rw d (opened-shows _ v (search needs) (search (needs, c .before .before .before .before .before .before .before .before .before .before .before .before .before .before .before .before .before .before .before .before .before .before .before .good .1 .0)) (search (needs, c .before .before .before .before .before .before .before .before .before .before .before .before .before .before .before .before .before .before .before .before .before .before .before .good .1 .1 .0))))
 
 pub open-link-spec : {M : Type 1} → statement M
-open-link-spec =
-    tie.close
-    (tie.spec
-    slice-read-len
-    cast-len
-    dir-code-requires
-    mul-put-be
-    put-be-requires
-    put-pair-requires
-    put-byte-requires
-    put-byte-requires-2
-    clear-requires
-    add-s
-    cast-s
-    slice-write-s
+open-link-spec = tie.close (tie.spec
+    (λ c. search needs)
+    (λ c. search needs)
+    (λ c κs. search needs)
+    (λ c. search needs)
+    (λ c κs. search needs)
+    (λ c κs. search needs)
+    (λ c κs. search needs)
+    (λ c κs. search needs)
+    (λ c κs. search needs)
+    (λ c. search needs)
+    (λ c. search needs)
+    (λ c. search needs)
     same-length
     returns)

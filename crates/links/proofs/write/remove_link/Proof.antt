@@ -1,18 +1,16 @@
+-- `links::write::remove_link` meets its contract.
+use Rattle.laws.specs.Store.{removed-is}
+use Rattle.links.specs.View.{linkOf}
+use Rattle.links.specs.Zeros.{link-zeros}
 use borrow.Author.Needs.{needs}
 use Rattle.links.proofs.write.remove_link.Statement.{statement}
 use Rattle.links.proofs.write.remove_link.Tie as tie
-use Rattle.links.proofs.write.remove_link.Reads as reads
-use Rattle.links.proofs.write.remove_link.Lts as lts
-use Rattle.memory.proofs.region.remove_chunk.Reads as remove-chunk-reads
-
-remove-chunk-requires : tie.Need-remove-chunk-requires
-remove-chunk-requires c κs = search needs
-
-same-length : tie.Need-same-length
-same-length c = search needs
 
 returns : tie.Need-returns
-returns c = search needs
+returns c = removed-is linkOf (search needs) (search needs) link-zeros (c .before .before .remove-chunk .ensures)
 
 pub remove-link-spec : {M : Type 1} → statement M
-remove-link-spec = tie.close (tie.spec remove-chunk-requires same-length returns)
+remove-link-spec = tie.close (tie.spec
+    (λ c κs. search needs)
+    (λ c. search needs)
+    returns)
