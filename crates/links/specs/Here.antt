@@ -54,6 +54,9 @@ module _ {s : Bytes} {i : ℕ} (f : FitLinks s) (h : i < linkCount s) where
   pub paths-fit : FitPaths (take 217 (drop (i * 297 + 80) s))
   paths-fit = fit-here .paths
 
+  pub link-shown : linkOf (getD (chunks 297 32 s) i []) ≡ getD (viewLinks s) i noLink
+  link-shown = shown linkOf i [] noLink (f .kept) h
+
   -- the number, of the chunk
   pub key-here : num (take 8 (drop (i * 297) s)) ≡ linkOf (getD (chunks 297 32 s) i []) .no
   key-here = no-here ∙ sym (ap (λ (r : LinkRec). r .no) (shown linkOf i [] noLink (f .kept) h))
