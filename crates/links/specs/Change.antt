@@ -31,7 +31,7 @@ use Rattle.node_addr.specs.View.{viewPair, FitPair}
 use Rattle.node_addr.specs.Place.{pairOf, PairCell, pairCell, pair-cell-length, pair-cell-fit, pair-cell-shows, pair-zeros}
 use Rattle.node_addr.specs.declared.Pair as pair
 use Rattle.links.specs.View.{stateOf, pathOf, FitPath, viewPaths, FitPaths, pathCount, noPath, newPath, inState, full, crowding, linkWs, dirOf, dirCode, holderOf, linkFrom, linkOf, FitHolder, FitFields, FitLink, viewLinks, FitLinks, linkCount, noLink, withPaths, withReleased, markedAt, cutAt}
-use Rattle.links.specs.Here.{paths-here}
+use Rattle.links.specs.Here.{span, span-is, paths-show}
 use Rattle.links.specs.Zeros.{paths-zeros}
 use Rattle.links.specs.Asking.{and-false}
 
@@ -230,14 +230,14 @@ module _ (bs c : Bytes) (k : FitPaths bs) (z : length c ≡ 297) where
   paths-put = ap linkFrom (paths-cuts c bs z (k .size))
 
 -- they were lent and put back
-pub paths-are : {s ys : Bytes} {i k : ℕ} (g : List PathRec → List PathRec) → k ≡ 217 → FitLinks s → i < linkCount s → FitPaths ys → viewPaths ys ≡ g (viewPaths (take k (drop (i * 297 + 80) s)))
-    → FitLinks (take (i * 297 + 80) s ++ (ys ++ drop k (drop (i * 297 + 80) s)))
-    × (viewLinks (take (i * 297 + 80) s ++ (ys ++ drop k (drop (i * 297 + 80) s))) ≡ set (viewLinks s) i (withPaths (g (getD (viewLinks s) i noLink .paths)) (getD (viewLinks s) i noLink)))
-paths-are {s} {ys} {i} {k} g e f h y q =
-    let w : Wrote s (i * 297 + 80) 217 ys (take (i * 297 + 80) s ++ (ys ++ drop k (drop (i * 297 + 80) s))) (i * 297 + 80 + 217) =
-    record { end = refl; size = y .size; room = omega arith; is = put-is (i * 297 + 80) k s ys (y .size ∙ sym e) } in
+pub paths-are : {s ys : Bytes} {i : ℕ} (g : List PathRec → List PathRec) → FitLinks s → i < linkCount s → FitPaths ys → viewPaths ys ≡ g (viewPaths (take (span i) (drop (i * 297 + 80) s)))
+    → FitLinks (take (i * 297 + 80) s ++ (ys ++ drop (span i) (drop (i * 297 + 80) s)))
+    × (viewLinks (take (i * 297 + 80) s ++ (ys ++ drop (span i) (drop (i * 297 + 80) s))) ≡ set (viewLinks s) i (withPaths (g (getD (viewLinks s) i noLink .paths)) (getD (viewLinks s) i noLink)))
+paths-are {s} {ys} {i} g f h y q =
+    let w : Wrote s (i * 297 + 80) 217 ys (take (i * 297 + 80) s ++ (ys ++ drop (span i) (drop (i * 297 + 80) s))) (i * 297 + 80 + 217) =
+    record { end = refl; size = y .size; room = omega arith; is = put-is (i * 297 + 80) (span i) s ys (y .size ∙ sym (span-is i)) } in
     let r = changed-is linkOf (withPaths (viewPaths ys)) i 80 noLink w f h (lit≤ tt) (λ c z. paths-keeps ys c y z) (λ c z. paths-put ys c y z) in
-    let v : viewPaths ys ≡ g (getD (viewLinks s) i noLink .paths) = q ∙ ap g ((ap (λ (n : ℕ). viewPaths (take n (drop (i * 297 + 80) s))) e) ∙ paths-here f h) in
+    let v : viewPaths ys ≡ g (getD (viewLinks s) i noLink .paths) = q ∙ ap g (paths-show f h) in
     (r .0, r .1 ∙ ap (λ (x : List PathRec). set (viewLinks s) i (withPaths x (getD (viewLinks s) i noLink))) v)
 
 -- both halves of a release
