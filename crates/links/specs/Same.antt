@@ -1,23 +1,21 @@
 -- Canonical regions of bytes that show the same links are the same.
-use mathlib.Core.Path.{_≡_, refl, sym, ap, ap₂, _∙_}
+use mathlib.Core.Path.{_≡_, refl, sym, ap, _∙_}
 use mathlib.Core.Bool.{Bool, true, false}
 use mathlib.Core.List.{List, [], _∷_, _++_}
-use Prim.Native.Nat.{ℕ, zero, suc, _+_, _*_, _≤_, _<_}
-use native.Mathlib.Nat.{add-zero}
+use Prim.Native.Nat.{ℕ, zero, suc, _+_, _≤_, _<_}
 use native.Mathlib.Omega.{arith}
-use lib.Dec.{eqb, lit≤}
 use lib.Seq.{drop-drop, take-all, length-take-le}
-use lib.ListN.{length, take, drop, getD, replicate, length-drop, take-append-drop, drop-of-length-le}
+use lib.ListN.{length, take, drop, length-drop, take-append-drop, drop-of-length-le}
 use Rattle.rules.specs.Base.{if_then_else_, Bytes, All}
 use Rattle.rules.specs.Bounds.{IsByte}
-use Rattle.rules.specs.Data.{Pair, Dir, Inbound, Outbound, Holder, ALeg, APeer, Proven, Live, Acked, Probing, PathRec, LinkRec}
-use Rattle.laws.specs.Shift.{Kept, all-take, all-drop}
-use Rattle.laws.specs.Cell.{num, byteOf, flagOf, Code, byte-same, flag-same, num-same}
+use Rattle.rules.specs.Data.{ALeg, APeer, PathRec, LinkRec}
+use Rattle.laws.specs.Shift.{all-take, all-drop}
+use Rattle.laws.specs.Cell.{byteOf, flagOf, byte-same, flag-same, num-same}
 use Rattle.laws.specs.Chunk.{chunks, joined}
 use Rattle.laws.specs.Fields.{cuts, sum}
 use Rattle.laws.specs.Store.{Store, entries, same-view}
-use Rattle.node_addr.specs.Place.{pairOf, PairCell, pair-cell-same}
-use Rattle.links.specs.View.{stateOf, pathOf, FitPath, viewPaths, FitPaths, linkWs, dirOf, holderOf, linkFrom, linkOf, FitHolder, FitFields, FitLink, viewLinks, FitLinks}
+use Rattle.node_addr.specs.Place.{pair-cell-same}
+use Rattle.links.specs.View.{stateOf, pathOf, FitPath, viewPaths, FitPaths, linkWs, dirOf, holderOf, linkOf, FitHolder, FitLink, viewLinks, FitLinks}
 
 -- ---- a region whose entries are of bytes too
 all-and : {A : Type 0} (P Q : A → Type 0) (xs : List A) → All P xs → All Q xs → All (λ (x : A). P x × Q x) xs
