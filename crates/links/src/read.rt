@@ -89,7 +89,7 @@ pub fn outbound_at(s: &[u8], i: usize) -> bool
 }
 
 // Whether the bundle of the link at a place released its setup.
-pub fn released_at(s: &[u8], i: usize) -> bool
+pub(crate) fn released_at(s: &[u8], i: usize) -> bool
     requires { ⌜ FitLinks (now s) ⌝ }
     requires { ⌜ i < linkCount (now s) ⌝ }
     ensures { λ r. ⌜ r ≡ getD (viewLinks (now (s .entry))) i noLink .released ⌝ }
@@ -128,8 +128,9 @@ pub fn uses_at(s: &[u8], i: usize, p: Pair) -> bool
     requires { ⌜ FitPair p ⌝ }
     ensures { λ r. ⌜ r ≡ uses (viewPair p) (getD (viewLinks (now (s .entry))) i noLink) ⌝ }
 {
-    if proven_at(s, i, p) {
-        return true;
+    let used = proven_at(s, i, p);
+    if used {
+        return used;
     }
     if !waits_at(s, i) {
         return false;
@@ -147,8 +148,9 @@ pub fn indexed_at(s: &[u8], i: usize, p: Pair) -> bool
     if proven_at(s, i, p) {
         return true;
     }
-    if released_at(s, i) {
-        return false;
+    let gone = released_at(s, i);
+    if gone {
+        return !gone;
     }
     setup_is(s, i, p)
 }
