@@ -66,7 +66,7 @@ legWidths l f = rw (
 cuts-bytes : (l : leg.Leg) → FitLeg l → cuts 0 0 legWs (joined (legFields l)) ≡ legFields l
 cuts-bytes l f = ap (λ (ws : List ℕ). cuts 0 0 ws (joined (legFields l))) (sym (legWidths l f)) ∙ cuts-joined (legFields l)
 
-optional-number : (b : Bool) (v : ℕ) → (b ≡ false → v ≡ 0) → Optional 8 (one b ∷ []) (digits 8 v)
+pub optional-number : (b : Bool) (v : ℕ) → (b ≡ false → v ≡ 0) → Optional 8 (one b ∷ []) (digits 8 v)
 unfolding digits
 optional-number true v h = record { flag = flag-code true; size = length-digits 8 v; blank = λ e. cc }
 optional-number false v h = record { flag = flag-code false; size = length-digits 8 v; blank = λ e. rw (h refl) }
