@@ -1,4 +1,4 @@
--- Two lists compared element by element: whether they are the same, and their order, the first difference deciding.
+-- Two runs of bytes compared one by one: whether they are the same, and their order, the first difference deciding.
 use Prim.Native.Nat.{ℕ, suc, _+_, _≤_, _<_}
 use mathlib.Core.Path.{_≡_, refl, sym, ap, ap₂, _∙_}
 use mathlib.Core.Bool.{Bool, true, false, _&&_}
@@ -8,11 +8,10 @@ use native.Mathlib.Omega.{arith}
 use borrow.Author.Tests.{eqb-true, eq-eqb, ne-eqb}
 use borrow.Author.Needs.{needs}
 use lib.Dec.{eqb, ltb}
-use lib.Seq.{drop-cons, getD-take, length-take-le, take-all}
-use lib.ListN.{length, take, drop, getD, drop-of-length-le}
+use lib.Seq.{drop-cons, getD-take, getD-drop, length-take-le}
+use lib.ListN.{length, take, drop, getD, drop-of-length-le, length-drop}
 use Rattle.rules.specs.Base.{same}
 use Rattle.rules.specs.Std.{before}
-use Rattle.laws.specs.Shift.{Kept}
 
 pub same-refl : (xs : List ℕ) → same xs xs ≡ true
 same-refl [] = refl
@@ -28,81 +27,80 @@ same-true (x ∷ xs) (y ∷ ys) e = go (eqb x y) refl (same-true xs ys) e
     go true q r e = ap₂ (λ (z : ℕ) (zs : List ℕ). z ∷ zs) (eqb-true x y q) (r e)
     go false q r e = cc
 
--- the invariant of a loop that goes along the first n of xs and ys at once and stands at i: o, the answer, is g of what is left of both
-pub record Beside {C : Type 0} (o : C) (g : List ℕ → List ℕ → C) (n : ℕ) (xs ys : List ℕ) (i : ℕ) : Type 0 where
-  pub within : i ≤ n
-  pub room : n ≤ length xs
-  pub room′ : n ≤ length ys
-  pub left : o ≡ g (drop i (take n xs)) (drop i (take n ys))
+pub same-yes : (xs ys : List ℕ) → xs ≡ ys → same xs ys ≡ true
+same-yes xs ys e = rw e (same-refl ys)
 
+pub same-no : (xs ys : List ℕ) → (xs ≡ ys → ⊥) → same xs ys ≡ false
+same-no xs ys d = go (same xs ys) refl
+  where
+    go : (b : Bool) → same xs ys ≡ b → b ≡ false
+    go true e = absurd (d (same-true xs ys e))
+    go false e = refl
+
+-- runs of different lengths are not the same
+pub same-apart : (xs ys : List ℕ) → (length xs ≡ length ys → ⊥) → same xs ys ≡ false
+same-apart xs ys d = same-no xs ys (λ e. d (ap length e))
+
+pub same-swap : (xs ys : List ℕ) → same xs ys ≡ same ys xs
+same-swap xs ys = go (same ys xs) refl
+  where
+    go : (b : Bool) → same ys xs ≡ b → same xs ys ≡ b
+    go true e = same-yes xs ys (sym (same-true ys xs e))
+    go false e = same-no xs ys (λ q. absurd (let z : _≡_ {A = Bool} true false = sym (same-yes ys xs (sym q)) ∙ e in let y : _≡_ {A = ℕ} 0 1 = cc in omega arith))
+
+-- ---- the loops
 pub taken-cons : (n : ℕ) (xs : List ℕ) (i : ℕ) → n ≤ length xs → i < n → drop i (take n xs) ≡ getD xs i 0 ∷ drop (suc i) (take n xs)
 taken-cons n xs i h p = drop-cons (take n xs) i 0 (rw (length-take-le n xs h) p) ∙ rw (getD-take n xs i 0 p)
 
 pub taken-end : (n : ℕ) (xs : List ℕ) (i : ℕ) → n ≤ length xs → n ≤ i → drop i (take n xs) ≡ []
 taken-end n xs i h p = drop-of-length-le (take n xs) {i = i} (rw (length-take-le n xs h) p)
 
-module _ {C : Type 0} {o : C} {g : List ℕ → List ℕ → C} {n : ℕ} {xs ys : List ℕ} {i : ℕ} (a : Beside o g n xs ys i) where
-  beside-at : i < n → o ≡ g (getD xs i 0 ∷ drop (suc i) (take n xs)) (getD ys i 0 ∷ drop (suc i) (take n ys))
-  beside-at p = a .left ∙ rw (taken-cons n xs i (a .room) p, taken-cons n ys i (a .room′) p)
+-- the same of a run at a place
+pub run-cons : (n : ℕ) (s : List ℕ) (at i : ℕ) → at + n ≤ length s → i < n → drop i (take n (drop at s)) ≡ getD s (at + i) 0 ∷ drop (suc i) (take n (drop at s))
+run-cons n s at i h p = taken-cons n (drop at s) i (rw length-drop (omega arith)) p ∙ rw (getD-drop at s i 0)
 
-  pub beside-end : n ≤ i → o ≡ g [] []
-  beside-end p = a .left ∙ rw (taken-end n xs i (a .room) p, taken-end n ys i (a .room′) p)
+pub run-end : (n : ℕ) (s : List ℕ) (at i : ℕ) → at + n ≤ length s → n ≤ i → drop i (take n (drop at s)) ≡ []
+run-end n s at i h p = taken-end n (drop at s) i (rw length-drop (omega arith)) p
 
--- the loop of `same`
-module _ {o : Bool} {n : ℕ} {xs ys : List ℕ} {i : ℕ} (a : Beside o same n xs ys i) (p : i < n) where
-  pub same-stop : (getD xs i 0 ≡ getD ys i 0 → ⊥) → false ≡ o
-  same-stop d = sym (beside-at a p ∙ rw (ne-eqb (getD xs i 0) (getD ys i 0) d))
+-- the invariant of a loop that goes along n bytes of s from `at` and of t from `from` at once and stands at i: o, the answer, is g of what is left of both
+pub record Beside {C : Type 0} (o : C) (g : List ℕ → List ℕ → C) (n : ℕ) (s : List ℕ) (at : ℕ) (t : List ℕ) (from i : ℕ) : Type 0 where
+  pub within : i ≤ n
+  pub room : at + n ≤ length s
+  pub room′ : from + n ≤ length t
+  pub left : o ≡ g (drop i (take n (drop at s))) (drop i (take n (drop from t)))
 
-  pub same-on : getD xs i 0 ≡ getD ys i 0 → Beside o same n xs ys (i + 1)
-  same-on e = record { within = omega arith; room = a .room; room′ = a .room′; left = beside-at a p ∙ rw (eq-eqb (getD xs i 0) (getD ys i 0) e, add-one) }
+module _ (n : ℕ) (s : List ℕ) (at : ℕ) (t : List ℕ) (from : ℕ) (h : at + n ≤ length s) (h′ : from + n ≤ length t) where
+  pub same-start : Beside (same (take n (drop at s)) (take n (drop from t))) same n s at t from 0
+  same-start = record { within = omega arith; room = h; room′ = h′; left = refl }
 
-pub same-end : {o : Bool} {n : ℕ} {xs ys : List ℕ} {i : ℕ} → Beside o same n xs ys i → n ≤ i → true ≡ o
-same-end a p = sym (beside-end a p)
+  pub before-start : Beside (before (take n (drop at s)) (take n (drop from t))) before n s at t from 0
+  before-start = record { within = omega arith; room = h; room′ = h′; left = refl }
 
--- the loop of `before`: the first difference decides
-module _ {o : Bool} {n : ℕ} {xs ys : List ℕ} {i : ℕ} (a : Beside o before n xs ys i) (p : i < n) where
-  pub before-stop : (getD xs i 0 ≡ getD ys i 0 → ⊥) → ltb (getD xs i 0) (getD ys i 0) ≡ o
-  before-stop d = sym (beside-at a p ∙ rw (ne-eqb (getD xs i 0) (getD ys i 0) d))
+module _ {C : Type 0} {o : C} {g : List ℕ → List ℕ → C} {n : ℕ} {s : List ℕ} {at : ℕ} {t : List ℕ} {from i : ℕ} (a : Beside o g n s at t from i) where
+  beside-at : i < n → o ≡ g (getD s (at + i) 0 ∷ drop (suc i) (take n (drop at s))) (getD t (from + i) 0 ∷ drop (suc i) (take n (drop from t)))
+  beside-at p = a .left ∙ rw (run-cons n s at i (a .room) p, run-cons n t from i (a .room′) p)
 
-  pub before-on : getD xs i 0 ≡ getD ys i 0 → Beside o before n xs ys (i + 1)
-  before-on e = record { within = omega arith; room = a .room; room′ = a .room′; left = beside-at a p ∙ rw (eq-eqb (getD xs i 0) (getD ys i 0) e, add-one) }
+  beside-end : n ≤ i → o ≡ g [] []
+  beside-end p = a .left ∙ rw (run-end n s at i (a .room) p, run-end n t from i (a .room′) p)
 
-pub before-end : {o : Bool} {n : ℕ} {xs ys : List ℕ} {i : ℕ} → Beside o before n xs ys i → n ≤ i → false ≡ o
-before-end a p = sym (beside-end a p)
+module _ {o : Bool} {n : ℕ} {s : List ℕ} {at : ℕ} {t : List ℕ} {from i : ℕ} (a : Beside o same n s at t from i) where
+  pub same-stop : i < n → (getD s (at + i) 0 ≡ getD t (from + i) 0 → ⊥) → false ≡ o
+  same-stop p d = sym (beside-at a p ∙ rw (ne-eqb (getD s (at + i) 0) (getD t (from + i) 0) d))
 
--- ---- where the loop starts: two whole lists of n elements, or the first n of two buffers
-whole : {C : Type 0} (g : List ℕ → List ℕ → C) (n : ℕ) (xs ys : List ℕ) → length xs ≡ n → length ys ≡ n → Beside (g xs ys) g n xs ys 0
-whole g n xs ys h h′ =
-    record { within = omega arith; room = omega arith; room′ = omega arith; left = rw (take-all n xs (omega arith), take-all n ys (omega arith)) }
+  pub same-on : i < n → getD s (at + i) 0 ≡ getD t (from + i) 0 → Beside o same n s at t from (i + 1)
+  same-on p e = record { within = omega arith; room = a .room; room′ = a .room′; left = beside-at a p ∙ rw (eq-eqb (getD s (at + i) 0) (getD t (from + i) 0) e, add-one) }
 
-pub same-whole : (n : ℕ) (xs ys : List ℕ) → length xs ≡ n → length ys ≡ n → Beside (same xs ys) same n xs ys 0
-same-whole = whole same
+  pub same-end : n ≤ i → true ≡ o
+  same-end p = sym (beside-end a p)
 
-pub before-whole : (n : ℕ) (xs ys : List ℕ) → length xs ≡ n → length ys ≡ n → Beside (before xs ys) before n xs ys 0
-before-whole = whole before
+module _ {o : Bool} {n : ℕ} {s : List ℕ} {at : ℕ} {t : List ℕ} {from i : ℕ} (a : Beside o before n s at t from i) where
+  pub before-stop : i < n → (getD s (at + i) 0 ≡ getD t (from + i) 0 → ⊥) → ltb (getD s (at + i) 0) (getD t (from + i) 0) ≡ o
+  before-stop p d = sym (beside-at a p ∙ rw (ne-eqb (getD s (at + i) 0) (getD t (from + i) 0) d))
 
-module _ {P Q : ℕ → Type 0} {b c p q n m : ℕ} {xs ys : List ℕ} (k : Kept P b p n xs) (l : Kept Q c q m ys) where
-  pub same-start : n ≡ m → Beside (same (take n xs) (take m ys)) same n xs ys 0
-  same-start e = record { within = omega arith; room = omega arith; room′ = omega arith; left = rw e }
+  pub before-on : i < n → getD s (at + i) 0 ≡ getD t (from + i) 0 → Beside o before n s at t from (i + 1)
+  before-on p e = record { within = omega arith; room = a .room; room′ = a .room′; left = beside-at a p ∙ rw (eq-eqb (getD s (at + i) 0) (getD t (from + i) 0) e, add-one) }
 
-  -- lists of different lengths are not the same
-  pub same-apart : (n ≡ m → ⊥) → false ≡ same (take n xs) (take m ys)
-  same-apart d = sym (go (same (take n xs) (take m ys)) refl)
-    where
-      go : (b : Bool) → same (take n xs) (take m ys) ≡ b → b ≡ false
-      go true e = absurd (d (sym (length-take-le n xs (omega arith)) ∙ ap length (same-true (take n xs) (take m ys) e) ∙ length-take-le m ys (omega arith)))
-      go false e = refl
+  pub before-end : n ≤ i → false ≡ o
+  before-end p = sym (beside-end a p)
 
--- lists that are written out, field by field
-pub same-differ : (x y : ℕ) (xs ys : List ℕ) → (x ≡ y → ⊥) → false ≡ same (x ∷ xs) (y ∷ ys)
-same-differ x y xs ys d = rw (ne-eqb x y d)
-
-pub same-more : (b : Bool) (x y : ℕ) (xs ys : List ℕ) → x ≡ y → b ≡ same xs ys → b ≡ same (x ∷ xs) (y ∷ ys)
-same-more b x y xs ys e q = rw (eq-eqb x y e) q
-
-pub same-none : true ≡ same [] []
-same-none = refl
-
-pub ruleset matching = (same-differ, same-more, same-none)
-
-pub ruleset comparing = (needs, same-whole, same-start, same-apart, same-stop, same-on, same-end, before-whole, before-stop, before-on, before-end)
+pub ruleset comparing = (needs, same-start, same-stop, same-on, same-end, before-start, before-stop, before-on, before-end)

@@ -14,7 +14,7 @@ use Rattle.rules.specs.Base.{if_then_else_, one, Bytes, All}
 use Rattle.rules.specs.Bounds.{IsByte}
 use Rattle.rules.specs.Field.{more, digits}
 use Rattle.laws.specs.Shift.{Kept}
-use Rattle.laws.specs.Copy.{Any}
+use Rattle.laws.specs.Buffer.{Any}
 use Rattle.laws.specs.Round.{more-digits}
 
 -- ---- what cells show

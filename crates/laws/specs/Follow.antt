@@ -1,5 +1,5 @@
 -- Readers in a row with no early return: each takes whether all went well so far and where it stands, and passes both on.
-use Prim.Native.Nat.{ℕ, _+_, _-_, _^_, _≤_, _<_}
+use Prim.Native.Nat.{ℕ, _+_, _-_, _≤_, _<_}
 use mathlib.Core.Path.{_≡_, refl, ap, _∙_}
 use mathlib.Core.Bool.{Bool, true, false, not}
 use mathlib.Core.Option.{Option, none, some}
@@ -7,13 +7,11 @@ use mathlib.Core.List.{List}
 use native.Mathlib.Omega.{arith}
 use borrow.Author.Tests.{not-true, not-false}
 use borrow.Author.Needs.{needs}
-use mir.Syntax.{w64}
-use mir.Val.{Fits}
 use lib.Seq.{drop-drop}
 use lib.ListN.{length, take, drop, length-drop}
 use Rattle.rules.specs.Base.{if_then_else_, option}
-use Rattle.rules.specs.Field.{Reader, bind, give}
-use Rattle.laws.specs.Parse.{Told, told-yes, told-no, told-room, rest-of, pow-256}
+use Rattle.rules.specs.Field.{Reader, bind, give, number, bytes, upTo, more}
+use Rattle.laws.specs.Parse.{number-yes, number-no, bytes-yes, bytes-no, upTo-yes, upTo-no, upTo-big}
 
 -- a reader of p took ok and at, and answers its own ok, the value and the next place
 pub record Stepped {A : Type 0} (p : Reader A) (ok : Bool) (at : ℕ) (s : List ℕ) (ok′ : Bool) (v : A) (at′ : ℕ) : Type 0 where
@@ -42,23 +40,39 @@ follows-step {ok = ok} {ok′} {at} {at′} {v} {s} {p} k f r = record { is = fo
 pub follows-end : {A : Type 0} {q : Reader A} {ok ok′ : Bool} {at at′ : ℕ} {s : List ℕ} (v : A) → Follows ((if ok then q (drop at s) else none)) (give v) ok′ at′ s → at′ ≤ length s → Stepped q ok at s ok′ v at′
 follows-end v f h = record { is = f .is; room = h }
 
--- a reader of a part, made one that passes ok and the place on
+-- a reader answers no: it was off, or what is left does not read
 module _ {A : Type 0} {p : Reader A} {ok : Bool} {at : ℕ} {s : List ℕ} where
   pub stepped-off : {v : A} → not ok ≡ true → at ≤ length s → Stepped p ok at s false v at
   stepped-off h r = let e : ok ≡ false = not-true ok h in record { is = rw e; room = r }
 
-  module _ {ok′ : Bool} {v : A} {n : ℕ} (t : Told (p (take (length s - at) (drop at s))) ok′ v n (take (length s - at) (drop at s))) (h : not ok ≡ false) (r : at ≤ length s) where
-    pub stepped-no : {w : A} → not ok′ ≡ true → Stepped p ok at s false w at
-    stepped-no q = let e : ok ≡ true = not-false ok h in record { is = rw e (rw rest-of at (told-no t q)); room = r }
+  pub stepped-none : {v : A} → not ok ≡ false → at ≤ length s → p (drop at s) ≡ none → Stepped p ok at s false v at
+  stepped-none h r q = let e : ok ≡ true = not-false ok h in record { is = rw (e, q); room = r }
 
-    pub stepped-yes : not ok′ ≡ false → Stepped p ok at s true v (at + n)
-    stepped-yes q =
-        let e : ok ≡ true = not-false ok h in
-        let l = rw rest-of at (told-room t q) in
-        record { is = rw (e, ← drop-drop n at s) (simp rest-of at (told-yes t q)); room = omega (arith, rw length-drop at l) }
+  -- it read v in n bytes
+  pub stepped-some : {v : A} (n : ℕ) → not ok ≡ false → at + n ≤ length s → p (drop at s) ≡ some (v, drop n (drop at s)) → Stepped p ok at s true v (at + n)
+  stepped-some n h r q = let e : ok ≡ true = not-false ok h in record { is = rw (e, q, drop-drop); room = r }
 
-pub stepped-fits : {A : Type 0} {o : Option (A × List ℕ)} {ok : Bool} {v : A} {n : ℕ} (at : ℕ) (s : List ℕ)
-    → Told o ok v n (take (length s - at) (drop at s)) → not ok ≡ false → at ≤ length s → length s < 2 ^ 64 → Fits w64 (at + n)
-stepped-fits at s t q r l = let m = rw length-drop at (rw rest-of at (told-room t q)) in omega arith
+-- a number, n bytes, n bytes within a limit, where `s.len() - at` is compared with n
+module _ {ok : Bool} {at : ℕ} {s : List ℕ} (h : not ok ≡ false) (r : at ≤ length s) where
+  pub number-short : {n v : ℕ} → length s - at < n → Stepped (number n) ok at s false v at
+  number-short {n} q = stepped-none h r (number-no n (drop at s) (rw length-drop q))
 
-pub ruleset following = (needs, pow-256, stepped-off, stepped-no, stepped-yes, stepped-fits)
+  pub number-read : {n v : ℕ} → n ≤ length s - at → v ≡ more 0 (take n (drop at s)) → Stepped (number n) ok at s true v (at + n)
+  number-read {n} q e = stepped-some n h (omega arith) (rw e (number-yes n (drop at s) (rw length-drop q)))
+
+  pub bytes-short : {n : ℕ} {v : List ℕ} → length s - at < n → Stepped (bytes n) ok at s false v at
+  bytes-short {n} q = stepped-none h r (bytes-no n (drop at s) (rw length-drop q))
+
+  pub bytes-read : {n : ℕ} {v : List ℕ} → n ≤ length s - at → v ≡ take n (drop at s) → Stepped (bytes n) ok at s true v (at + n)
+  bytes-read {n} q e = stepped-some n h (omega arith) (rw e (bytes-yes n (drop at s) (rw length-drop q)))
+
+  pub upTo-over : {limit n : ℕ} {v : List ℕ} → limit < n → Stepped (upTo limit n) ok at s false v at
+  upTo-over {limit} {n} k = stepped-none h r (upTo-big n (drop at s) limit k)
+
+  pub upTo-short : {limit n : ℕ} {v : List ℕ} → n ≤ limit → length s - at < n → Stepped (upTo limit n) ok at s false v at
+  upTo-short {limit} {n} k q = stepped-none h r (upTo-no n (drop at s) limit k (rw length-drop q))
+
+  pub upTo-read : {limit n : ℕ} {v : List ℕ} → n ≤ limit → n ≤ length s - at → v ≡ take n (drop at s) → Stepped (upTo limit n) ok at s true v (at + n)
+  upTo-read {limit} {n} k q e = stepped-some n h (omega arith) (rw e (upTo-yes n (drop at s) limit k (rw length-drop q)))
+
+pub ruleset following = (needs, stepped-off, number-short, number-read, bytes-short, bytes-read, upTo-over, upTo-short, upTo-read)

@@ -1,15 +1,30 @@
--- Loops that move bytes of one slice down or up, clear them, and read numbers and byte strings where they stand.
+-- Loops that put bytes of another slice, move bytes of one slice down or up, and clear them.
 use Prim.Native.Nat.{ℕ, zero, suc, _+_, _-_, _≤_, _<_}
 use mathlib.Core.Path.{_≡_, refl, sym, ap, _∙_}
 use mathlib.Core.List.{List, [], _∷_, _++_}
-use native.Mathlib.Nat.{not-suc-le-zero, add-zero}
+use native.Mathlib.Nat.{not-suc-le-zero}
 use native.Mathlib.Omega.{arith}
 use borrow.Author.Needs.{needs}
-use lib.Seq.{drop-drop, drop-set-lt, take-set-le, getD-drop, getD-take, take-suc, take-take, length-take-le, take-all}
+use lib.Seq.{drop-drop, drop-set-lt, take-set-le, getD-drop, getD-take, take-suc, take-take, length-take-le}
 use lib.ListN.{length, take, drop, getD, set, replicate, length-drop, length-set, length-replicate, getD-replicate}
-use Rattle.laws.specs.Splice.{splice, splice-none, splice-snoc, Pasting, pasting-start, pasting-turn, pasting-end, pasting-all}
-use Rattle.laws.specs.Copy.{Copying, copying-start, copying-turn, copied-view}
-use lib.Dec.{eqb, lit<}
+use Rattle.laws.specs.Splice.{Wrote, splice, splice-none, splice-snoc, Pasting, pasting-start, pasting-turn, pasting-end, pasting-all}
+
+-- ---- n bytes of t from `from` on, put at `at`
+pub record Running (s : List ℕ) (at : ℕ) (t : List ℕ) (from n : ℕ) (l : List ℕ) (i : ℕ) : Type 0 where
+  pub within : i ≤ n
+  pub reach : from + n ≤ length t
+  pub size : length l ≡ length s
+  pub paste : Pasting s at n (drop from t) l i
+
+pub running-start : (s : List ℕ) (at : ℕ) (t : List ℕ) (from n : ℕ) → at + n ≤ length s → from + n ≤ length t → Running s at t from n s 0
+running-start s at t from n h k = record { within = omega arith; reach = k; size = refl; paste = pasting-start s at n (drop from t) h (rw length-drop (omega arith)) }
+
+pub running-turn : {s : List ℕ} {at : ℕ} {t : List ℕ} {from n : ℕ} {l : List ℕ} {i : ℕ} → Running s at t from n l i → i < n → Running s at t from n (set l (at + i) (getD t (from + i) 0)) (i + 1)
+running-turn {t = t} {from} {i = i} a p =
+    record { within = omega arith; reach = a .reach; size = rw length-set (a .size); paste = rw (← getD-drop from t i 0) (pasting-turn (a .paste) p) }
+
+pub running-end : {s : List ℕ} {at : ℕ} {t : List ℕ} {from n : ℕ} {l : List ℕ} {i : ℕ} → Running s at t from n l i → n ≤ i → Wrote s at n (take n (drop from t)) l (at + n)
+running-end a p = pasting-end (a .paste) p
 
 -- ---- down: n bytes from `from` to `to`, the first byte first
 pub record Lowering (s : List ℕ) (from to n : ℕ) (l : List ℕ) (i : ℕ) : Type 0 where
@@ -100,42 +115,7 @@ clearing-turn {s} {at} {n} {l} {i} a p =
     let e : _≡_ {A = ℕ} (getD (replicate n 0) i 0) 0 = getD-replicate n i 0 0 p in
     record { within = omega arith; reach = a .reach; size = rw length-set (a .size); paste = rw e at (pasting-turn (a .paste) p) }
 
-pub clearing-end : {s : List ℕ} {at n : ℕ} {l : List ℕ} {i : ℕ} → Clearing s at n l i → n ≤ i → l ≡ splice s at (replicate n 0)
-clearing-end {n = n} a p = pasting-all (a .paste) p (length-replicate n 0) .is
+pub clearing-end : {s : List ℕ} {at n : ℕ} {l : List ℕ} {i : ℕ} → Clearing s at n l i → n ≤ i → Wrote s at n (replicate n 0) l (at + n)
+clearing-end {n = n} a p = pasting-all (a .paste) p (length-replicate n 0)
 
-pub ruleset moving = (needs, lowering-start, lowering-turn, lowering-end, raising-start, raising-turn, raising-end, clearing-start, clearing-turn, clearing-end)
-
--- ---- bytes read at a place
-pub record Fetching (s : List ℕ) (at n : ℕ) (l : List ℕ) (i : ℕ) : Type 0 where
-  pub within : i ≤ n
-  pub reach : at + n ≤ length s
-  pub size : length l ≡ n
-  pub copy : Copying (drop at s) (replicate n 0) n i l
-
-pub fetching-start : (s : List ℕ) (at n : ℕ) → at + n ≤ length s → Fetching s at n (replicate n 0) 0
-fetching-start s at n h = record {
-  within = omega arith;
-  reach = h;
-  size = length-replicate n 0;
-  copy = copying-start (drop at s) (replicate n 0) n (rw length-drop (omega arith)) (rw length-replicate (omega arith));
-}
-
-pub fetching-turn : {s : List ℕ} {at n : ℕ} {l : List ℕ} {i : ℕ} → Fetching s at n l i → i < n → Fetching s at n (set l i (getD s (at + i) 0)) (i + 1)
-fetching-turn {s} {at} {n} {l} {i} a p = record {
-  within = omega arith;
-  reach = a .reach;
-  size = rw length-set (a .size);
-  copy = rw (getD-drop at s i 0) at (copying-turn 0 (a .copy) p);
-}
-
-pub fetching-end : {s : List ℕ} {at n : ℕ} {l : List ℕ} {i : ℕ} → Fetching s at n l i → n ≤ i → l ≡ take n (drop at s)
-fetching-end {s} {at} {n} {l} a p = sym (take-all n l (omega arith)) ∙ copied-view (a .copy) p
-
-pub ruleset fetching = (needs, fetching-start, fetching-turn, fetching-end)
-
--- ---- a byte
-pub byte-here : (s : List ℕ) (at : ℕ) → getD s at 0 ≡ getD (take 1 (drop at s)) 0 0
-byte-here s at = sym (getD-take 1 (drop at s) 0 0 (lit< tt) ∙ getD-drop at s 0 0 ∙ rw add-zero)
-
-pub flag-here : (s : List ℕ) (at : ℕ) → eqb (getD s at 0) 1 ≡ eqb (getD (take 1 (drop at s)) 0 0) 1
-flag-here s at = ap (λ (x : ℕ). eqb x 1) (byte-here s at)
+pub ruleset moving = (needs, running-start, running-turn, running-end, lowering-start, lowering-turn, lowering-end, raising-start, raising-turn, raising-end, clearing-start, clearing-turn, clearing-end)

@@ -9,7 +9,7 @@ use borrow.Author.Needs.{needs}
 use lib.Seq.{take-at, drop-at, drop-drop, length-take-le, set-split, take-all, take-set-le}
 use lib.ListN.{length, take, drop, getD, set, length-append, length-take, length-drop, length-set, take-append-drop}
 use Rattle.rules.specs.Field.{digits}
-use Rattle.laws.specs.Shift.{drop-set, Kept}
+use Rattle.laws.specs.Shift.{drop-set}
 use Rattle.laws.specs.Beside.{taken-cons, taken-end}
 
 unfoldable pub splice : List ℕ → ℕ → List ℕ → List ℕ
@@ -127,26 +127,13 @@ pub pasting-end : {xs : List ℕ} {at n : ℕ} {src l : List ℕ} {i : ℕ} → 
 pasting-end {at = at} {n} {src} {l} {i} a p =
     record { end = refl; size = length-take-le n src (a .source); room = a .room; is = sym (splice-none l (at + i)) ∙ (rw (taken-end n src i (a .source) p) at (a .left)) }
 
--- from a buffer that is kept, or a whole list of n
-pub pasting-kept : {P : ℕ → Type 0} {b cap n : ℕ} {src : List ℕ} (xs : List ℕ) (at : ℕ) → Kept P b cap n src → at + n ≤ length xs → Pasting xs at n src xs 0
-pasting-kept {n = n} {src = src} xs at k h = pasting-start xs at n src h (omega arith)
-
-pub pasting-whole : (xs : List ℕ) (at n : ℕ) (src : List ℕ) → at + n ≤ length xs → length src ≡ n → Pasting xs at n src xs 0
-pasting-whole xs at n src h e = pasting-start xs at n src h (omega arith)
-
 pub pasting-all : {xs : List ℕ} {at n : ℕ} {src l : List ℕ} {i : ℕ} → Pasting xs at n src l i → n ≤ i → length src ≡ n → Wrote xs at n src l (at + n)
 pasting-all {n = n} {src} a p e = rw (take-all n src (omega arith)) at (pasting-end a p)
-
-pub kept-length : {P : ℕ → Type 0} {b cap n : ℕ} {xs : List ℕ} → Kept P b cap n xs → length (take n xs) ≡ n
-kept-length {n = n} {xs = xs} k = length-take-le n xs (omega arith)
-
-pub ruleset writing = (needs, putting-start, putting-turn, putting-end, pasting-kept, pasting-whole, pasting-turn, pasting-end, pasting-all)
-
-pub put-end : {xs : List ℕ} {at n v₀ : ℕ} {l : List ℕ} {i v : ℕ} → Putting xs at n v₀ l i v → i ≤ 0 → l ≡ splice xs at (digits n v₀)
-put-end a p = putting-end a p .is
 
 pub wrote-byte : (xs : List ℕ) (at v : ℕ) → at < length xs → Wrote xs at 1 (v ∷ []) (set xs at v) (at + 1)
 wrote-byte xs at v h = record { end = refl; size = refl; room = omega arith; is = set-splice xs at v h }
 
 pub wrote-same : (xs : List ℕ) (at v w : ℕ) → v ≡ w → at < length xs → Wrote xs at 1 (w ∷ []) (set xs at v) (at + 1)
 wrote-same xs at v w e h = rw e (wrote-byte xs at w h)
+
+pub ruleset writing = (needs, putting-start, putting-turn, putting-end, wrote-byte)

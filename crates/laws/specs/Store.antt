@@ -231,10 +231,10 @@ opens {w = w} {cap} {at} {s} r h q b =
     let e : (at + 1 + (getD s (cap * w) 0 - at)) * w ≤ cap * w = mul-le-mul-right w (omega arith) in
     record { size = r .size; small = q; byte = b; here = h; from = omega arith; to = rw add-mul at e }
 
-pub erased-is : {w cap at : ℕ} {s l m : List ℕ} → Closes w cap at s → l ≡ splice s (at * w) (take ((getD s (cap * w) 0 - 1 - at) * w) (drop ((at + 1) * w) s))
-    → m ≡ splice l ((getD s (cap * w) 0 - 1) * w) (replicate w 0) → set m (cap * w) (getD s (cap * w) 0 - 1) ≡ erased w cap at s
+pub erased-is : {w cap at : ℕ} {s l m : List ℕ} {q : ℕ} → Closes w cap at s → l ≡ splice s (at * w) (take ((getD s (cap * w) 0 - 1 - at) * w) (drop ((at + 1) * w) s))
+    → Wrote l ((getD s (cap * w) 0 - 1) * w) w (replicate w 0) m q → set m (cap * w) (getD s (cap * w) 0 - 1) ≡ erased w cap at s
 unfolding erased closed
-erased-is a e f = rw (f, e)
+erased-is a e f = rw (f .is, e)
 
 pub gapped-is : {w cap at : ℕ} {s l : List ℕ} → Opens w cap at s → l ≡ splice s ((at + 1) * w) (take ((getD s (cap * w) 0 - at) * w) (drop (at * w) s))
     → set l (cap * w) (getD s (cap * w) 0 + 1) ≡ gapped w cap at s

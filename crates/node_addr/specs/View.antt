@@ -7,7 +7,7 @@ use lib.ListN.{length, take, replicate}
 use Rattle.rules.specs.Base.{Bytes}
 use Rattle.rules.specs.Data.{Pair}
 use Rattle.laws.specs.Shift.{Kept}
-use Rattle.laws.specs.Copy.{Any, all-any}
+use Rattle.laws.specs.Buffer.{Any, all-any}
 use Rattle.node_addr.specs.declared.NodeAddr as nodeaddr
 use Rattle.node_addr.specs.declared.TransportId as transportid
 use Rattle.node_addr.specs.declared.Digest as digest
