@@ -6,7 +6,7 @@ use Prim.Native.Nat.{ℕ, _+_, _*_, _<_}
 use native.Mathlib.Nat.{add-zero}
 use native.Mathlib.Omega.{arith}
 use lib.Dec.{eqb, lit≤, lit<}
-use lib.Seq.{length-take-le}
+use lib.Seq.{length-take-le, getD-take, getD-drop}
 use lib.ListN.{length, take, drop, getD, replicate, length-drop}
 use mir.Syntax.{w32, w64}
 use mir.Val.{Fits}
@@ -129,6 +129,13 @@ leg-bytes l f b =
       more-digits 8 (l .epoch) (b .epoch .fits),
     )
 
+-- ---- a byte, where it stands
+pub byte-here : (s : Bytes) (at : ℕ) → getD s at 0 ≡ byteOf (take 1 (drop at s))
+byte-here s at = sym (getD-take 1 (drop at s) 0 0 (lit< tt) ∙ getD-drop at s 0 0 ∙ rw add-zero)
+
+pub flag-here : (s : Bytes) (at : ℕ) → eqb (getD s at 0) 1 ≡ flagOf (take 1 (drop at s))
+flag-here s at = ap (λ (x : ℕ). eqb x 1) (byte-here s at)
+
 -- ---- the cells of the i-th leg, where they stand
 pub cells-here : (s : Bytes) (i : ℕ) → FitLegs s → i < legCount s → cuts (i * 351) 0 legWs s ≡ cuts 0 0 legWs (getD (chunks 351 32 s) i [])
 unfolding sum
@@ -156,17 +163,20 @@ pub record Loaded (l : leg.Leg) (a : ℕ) (s : Bytes) : Type 0 where
   pub epoch : l .epoch ≡ num (take 8 (drop (a + 53) s))
   pub digest : l .digest .0 ≡ take 32 (drop (a + 61) s)
   pub len1 : l .msg1 .len ≡ byteOf (take 1 (drop (a + 93) s))
-  pub msg1 : l .msg1 .bytes ≡ take 128 (drop (a + 94) s)
+  pub msg1 : l .msg1 .bytes ≡ take 128 (drop (a + 93 + 1) s)
   pub len2 : l .msg2 .len ≡ byteOf (take 1 (drop (a + 222) s))
-  pub msg2 : l .msg2 .bytes ≡ take 128 (drop (a + 223) s)
+  pub msg2 : l .msg2 .bytes ≡ take 128 (drop (a + 222 + 1) s)
 
 -- where the flag is not set
 clear : {f s : Bytes} {w : ℕ} {b : Bool} → Optional w f s → b ≡ flagOf f → b ≡ false → s ≡ replicate w 0
 clear o e q = o .blank (sym e ∙ q)
 
-num-zeros : num (replicate 8 0) ≡ 0
+pub num-zeros : num (replicate 8 0) ≡ 0
 unfolding more
 num-zeros = refl
+
+one-more : (a o : ℕ) → a + o + 1 ≡ a + (o + 1)
+one-more a o = omega arith
 
 blank-loaded : (l : leg.Leg) (s : Bytes) (i : ℕ) → Loaded l (i * 351) s → BlankCells (cuts (i * 351) 0 legWs s) → BlankLeg l
 unfolding more
@@ -176,20 +186,22 @@ blank-loaded l s i r b = record {
   epoch = r .epoch ∙ rw (b .epoch);
   digest = r .digest ∙ b .digest;
   len2 = r .len2 ∙ rw (b .len2);
-  msg2 = r .msg2 ∙ b .msg2;
+  msg2 = r .msg2 ∙ ap (λ (k : ℕ). take 128 (drop k s)) (one-more (i * 351) 222) ∙ b .msg2;
 }
 
 pub leg-loaded : (s : Bytes) (i : ℕ) (l : leg.Leg) → FitLegs s → i < legCount s → Loaded l (i * 351) s → FitLeg l × (viewLeg l ≡ legAt s i)
 leg-loaded s i l f h r =
     let z : i * 351 + 0 ≡ i * 351 = add-zero (i * 351) in
+    let x : i * 351 + 93 + 1 ≡ i * 351 + 94 = one-more (i * 351) 93 in
+    let y : i * 351 + 222 + 1 ≡ i * 351 + 223 = one-more (i * 351) 222 in
     let k = fit-here s i f h in
     let v : viewLeg l ≡ legFrom (cuts (i * 351) 0 legWs s) =
-    rw (r .link, r .deadline, r .timed, r .next, r .sent, r .lease, r .answer, r .named, r .peer, r .marked, r .replaces, r .epoch, r .digest, r .len1, r .msg1, r .len2, r .msg2, z) in (
+    rw (r .link, r .deadline, r .timed, r .next, r .sent, r .lease, r .answer, r .named, r .peer, r .marked, r .replaces, r .epoch, r .digest, r .len1, r .msg1, r .len2, r .msg2, x, y, z) in (
       record {
         peer = rw (r .peer) (k .peer .size);
         digest = rw (r .digest) (length-take-le 32 (drop (i * 351 + 61) s) (rw length-drop (omega arith)));
-        msg1 = record { kept = rw (r .len1, r .msg1) (k .msg1 .kept) };
-        msg2 = record { kept = rw (r .len2, r .msg2) (k .msg2 .kept) };
+        msg1 = record { kept = rw (r .len1, r .msg1, x) (k .msg1 .kept) };
+        msg2 = record { kept = rw (r .len2, r .msg2, y) (k .msg2 .kept) };
         untimed = λ e. r .next ∙ ap num (clear (k .next) (r .timed) e) ∙ num-zeros;
         unnamed = λ e. r .peer ∙ clear (k .peer) (r .named) e;
         dial = λ e. blank-loaded l s i r (k .dial (sym (r .answer) ∙ e));

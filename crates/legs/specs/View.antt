@@ -7,9 +7,9 @@ use Prim.Native.Nat.{ℕ}
 use lib.Dec.{lit≤, lit<}
 use lib.ListN.{length, take, getD, replicate}
 use Rattle.rules.specs.Base.{if_then_else_, Bytes}
-use Rattle.rules.specs.Data.{Kind, Leg}
+use Rattle.rules.specs.Data.{Answered, Kind, Leg}
 use Rattle.laws.specs.Shift.{Kept}
-use Rattle.laws.specs.Copy.{Any, all-any}
+use Rattle.laws.specs.Buffer.{Any, all-any}
 use Rattle.laws.specs.Cell.{num, byteOf, flagOf, textOf, optionNum, optionBytes, Code, Text, Optional}
 use Rattle.laws.specs.Fields.{cuts}
 use Rattle.laws.specs.Store.{Store, entries}
@@ -24,14 +24,17 @@ legWs = 8 ∷ 8 ∷ 1 ∷ 8 ∷ 4 ∷ 4 ∷ 1 ∷ 1 ∷ 16 ∷ 1 ∷ 1 ∷ 8 ∷
 abbrev pub cell : List Bytes → ℕ → Bytes
 cell fs k = getD fs k []
 
-abbrev pub kindFrom : List Bytes → Kind
-kindFrom fs = if flagOf (cell fs 6) then Kind.Answer (record {
+abbrev pub answerFrom : List Bytes → Answered
+answerFrom fs = record {
   msg2 = textOf (cell fs 15) (cell fs 16);
   ephemeral = cell fs 12;
   epoch = num (cell fs 11);
   replaces = flagOf (cell fs 10);
   sent = flagOf (cell fs 9);
-}) else Kind.Dial
+}
+
+abbrev pub kindFrom : List Bytes → Kind
+kindFrom fs = if flagOf (cell fs 6) then Kind.Answer (answerFrom fs) else Kind.Dial
 
 abbrev pub legFrom : List Bytes → Leg
 legFrom fs = record {

@@ -1,12 +1,14 @@
 -- Loops over the legs: a search, the count of the answers, the earliest wake.
 use mathlib.Core.Path.{_≡_, refl, sym, ap, _∙_}
-use mathlib.Core.Bool.{Bool, true, false}
+use mathlib.Core.Bool.{Bool, true, false, not}
 use mathlib.Core.Option.{Option, none, some}
 use mathlib.Core.List.{List, [], _∷_}
 use Prim.Native.Nat.{ℕ, suc, _+_, _≤_, _<_, min}
 use native.Mathlib.Numerals.{add-one}
 use native.Mathlib.Omega.{arith}
 use borrow.Author.Needs.{needs}
+use mir.Syntax.{w64}
+use mir.Val.{Fits}
 use lib.Seq.{drop-cons}
 use lib.ListN.{length, drop, getD, drop-of-length-le}
 use Rattle.rules.specs.Base.{if_then_else_, option, one, Bytes, keep}
@@ -63,6 +65,10 @@ pub record Answering (s : Bytes) (n i k : ℕ) : Type 0 where
 pub answering-start : {s : Bytes} {n : ℕ} → FitLegs s → n ≡ legCount s → Answering s n 0 0
 answering-start f e = record { fit = f; count = e; within = omega arith; small = omega arith; left = omega arith }
 
+one-small : (b : Bool) → one b ≤ 1
+one-small true = omega arith
+one-small false = omega arith
+
 length-keep : (b : Bool) (g : Leg) (s : List Leg) → answers g ≡ b → answering (g ∷ s) ≡ one b + answering s
 unfolding answering
 length-keep true g s e = rw e (omega arith)
@@ -74,21 +80,37 @@ module _ {s : Bytes} {n i k : ℕ} (a : Answering s n i k) (h : i < n) where
       let q : i < legCount s = omega arith in
       a .left ∙ ap (λ (x : ℕ). k + x) (ap answering (from-here (a .fit) q) ∙ length-keep b (legAt s i) (drop (i + 1) (viewLegs s)) e)
 
-  pub answering-more : answers (legAt s i) ≡ true → Answering s n (i + 1) (k + 1)
-  answering-more e =
-      let q = answering-at true e in
+  pub answering-turn : {b : Bool} {m : ℕ} → b ≡ answers (legAt s i) → m ≡ one b → Answering s n (i + 1) (k + m)
+  answering-turn {b} {m} e q =
+      let x = answering-at b (sym e) in
+      let y : m ≤ 1 = rw q (one-small b) in
       record { fit = a .fit; count = a .count; within = omega arith; small = omega arith; left = omega arith }
 
-  pub answering-skip : answers (legAt s i) ≡ false → Answering s n (i + 1) k
-  answering-skip e =
-      let q = answering-at false e in
-      record { fit = a .fit; count = a .count; within = omega arith; small = omega arith; left = omega arith }
+  pub answering-fits : (b : Bool) {m : ℕ} → m ≡ one b → Fits w64 (k + m)
+  answering-fits b {m} q =
+      let y : m ≤ 1 = rw q (one-small b) in
+      let z : legCount s ≤ 32 = a .fit .kept .small in
+      record { fits = omega arith }
 
 pub answering-end : {s : Bytes} {n i k : ℕ} → Answering s n i k → n ≤ i → k ≡ answering (viewLegs s)
 unfolding answering
 answering-end {s} {n} {i} {k} a h =
     let q = a .left ∙ ap (λ (x : List Leg). k + length (keep answers x)) (none-left {i = i} (a .fit) (omega arith)) in
     omega arith
+
+-- ---- the lesser of two, if there are two
+module _ (at w : ℕ) where
+  pub sooner-none : (b : Bool) → not b ≡ true → w ≡ (if b then min at w else w)
+  sooner-none true e = cc
+  sooner-none false e = refl
+
+  pub sooner-old : (b : Bool) → not b ≡ false → at < w → at ≡ (if b then min at w else w)
+  sooner-old true e l = omega arith
+  sooner-old false e l = cc
+
+  pub sooner-new : (b : Bool) → not b ≡ false → w ≤ at → w ≡ (if b then min at w else w)
+  sooner-new true e l = omega arith
+  sooner-new false e l = cc
 
 -- ---- the earliest wake before the i-th
 abbrev pub perhaps : Bool → ℕ → Option ℕ
@@ -116,23 +138,17 @@ module _ {s : Bytes} {n i : ℕ} {b : Bool} {v : ℕ} (a : Waking s n i b v) whe
   unfolding nextWake
   waking-at h = let q : i < legCount s = omega arith in a .left ∙ ap (λ (x : List Leg). earlier (perhaps b v) (nextWake x)) (from-here (a .fit) q)
 
-pub waking-first : {s : Bytes} {n i v : ℕ} → Waking s n i false v → i < n → Waking s n (i + 1) true (wake (legAt s i))
-waking-first a h = record { fit = a .fit; count = a .count; within = omega arith; left = waking-at a h }
+merged : (b : Bool) (v w : ℕ) (o : Option ℕ) → earlier (perhaps b v) (some (option o w λ x. min w x)) ≡ some (option o (if b then min v w else w) λ x. min (if b then min v w else w) x)
+merged true v w o = merge v w o
+merged false v w o = refl
 
-module _ {s : Bytes} {n i v : ℕ} (a : Waking s n i true v) (h : i < n) where
-  waking-both : Waking s n (i + 1) true (min v (wake (legAt s i)))
-  waking-both = record {
-    fit = a .fit;
-    count = a .count;
-    within = omega arith;
-    left = waking-at a h ∙ merge v (wake (legAt s i)) (nextWake (drop (i + 1) (viewLegs s)));
-  }
-
-  pub waking-sooner : (w : ℕ) → w ≡ wake (legAt s i) → w < v → Waking s n (i + 1) true w
-  waking-sooner w e l = let q : min v (wake (legAt s i)) ≡ w = omega arith in rw q at waking-both
-
-  pub waking-later : (w : ℕ) → w ≡ wake (legAt s i) → v ≤ w → Waking s n (i + 1) true v
-  waking-later w e l = let q : min v (wake (legAt s i)) ≡ v = omega arith in rw q at waking-both
+pub waking-turn : {s : Bytes} {n i : ℕ} {b : Bool} {v w r : ℕ} → Waking s n i b v → i < n → w ≡ wake (legAt s i) → r ≡ (if b then min v w else w) → Waking s n (i + 1) true r
+waking-turn {s} {n} {i} {b} {v} {w} {r} a h e q = record {
+  fit = a .fit;
+  count = a .count;
+  within = omega arith;
+  left = waking-at a h ∙ rw (q, e) (merged b v (wake (legAt s i)) (nextWake (drop (i + 1) (viewLegs s))));
+}
 
 pub waking-end : {s : Bytes} {n i : ℕ} {b : Bool} {v : ℕ} → Waking s n i b v → n ≤ i → perhaps b v ≡ nextWake (viewLegs s)
 unfolding nextWake
