@@ -55,21 +55,21 @@ module _ {n : ℕ} {s : Bytes} {at : ℕ} {t : Bytes} {from i : ℕ} (a : Abreas
       → false ≡ same (take (n * 8) (drop at s)) (take (n * 8) (drop from t))
   abreast-stop p e f d =
       sym (same-no (take (n * 8) (drop at s)) (take (n * 8) (drop from t)) λ q. d (
-      e
-      ∙ ap (more 0) (sym (word-of n s at i p) ∙ ap (λ (u : Bytes). take 8 (drop (i * 8) u)) q ∙ word-of n t from i p)
-      ∙ sym f
+        e
+        ∙ ap (more 0) (sym (word-of n s at i p) ∙ ap (λ (u : Bytes). take 8 (drop (i * 8) u)) q ∙ word-of n t from i p)
+        ∙ sym f
       ))
 
   pub abreast-on : {v w : ℕ} → i < n → v ≡ more 0 (take 8 (drop (at + i * 8) s)) → w ≡ more 0 (take 8 (drop (from + i * 8) t)) → v ≡ w
       → ((j : ℕ) → Fits w8 (getD s j 0)) → ((j : ℕ) → Fits w8 (getD t j 0)) → Abreast n s at t from (i + 1)
   abreast-on p e f d x y =
       let k : take 8 (drop (at + i * 8) s) ≡ take 8 (drop (from + i * 8) t) = num-same
-      (take 8 (drop (at + i * 8) s))
-      (take 8 (drop (from + i * 8) t))
-      (all-take IsByte 8 (drop (at + i * 8) s) (all-drop IsByte (at + i * 8) s (all-bytes s x)))
-      (all-take IsByte 8 (drop (from + i * 8) t) (all-drop IsByte (from + i * 8) t (all-bytes t y)))
-      (simp (length-take, length-drop) (omega arith))
-      (sym e ∙ d ∙ f) in
+        (take 8 (drop (at + i * 8) s))
+        (take 8 (drop (from + i * 8) t))
+        (all-take IsByte 8 (drop (at + i * 8) s) (all-drop IsByte (at + i * 8) s (all-bytes s x)))
+        (all-take IsByte 8 (drop (from + i * 8) t) (all-drop IsByte (from + i * 8) t (all-bytes t y)))
+        (simp (length-take, length-drop) (omega arith))
+        (sym e ∙ d ∙ f) in
       record { within = omega arith; room = a .room; room′ = a .room′; past = run-on s at i ∙ rw (a .past, k) (sym (run-on t from i)) }
 
   pub abreast-end : n ≤ i → true ≡ same (take (n * 8) (drop at s)) (take (n * 8) (drop from t))
