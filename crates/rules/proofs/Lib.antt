@@ -1,0 +1,5 @@
+pub mod Fields
+pub mod CallFits
+pub mod Records
+pub mod Time
+pub mod Rows
