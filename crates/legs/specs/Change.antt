@@ -22,8 +22,9 @@ use Rattle.laws.specs.Part.{getD-past}
 use Rattle.laws.specs.Cell.{num, byteOf, flagOf, Code, flag-shows, flag-code}
 use Rattle.laws.specs.Chunk.{chunks, chunk-size, chunks-splice}
 use Rattle.laws.specs.Fields.{cuts, cuts-set, sum}
+use Rattle.node_addr.specs.Alike.{byte-here}
 use Rattle.legs.specs.View.{legWs, cell, legFrom, legOf, kindFrom, BlankCells, FitCells, FitLegCell, viewLegs, FitLegs, legCount, noLeg, legAt}
-use Rattle.legs.specs.Entry.{optional-number, byte-here, cells-here}
+use Rattle.legs.specs.Entry.{optional-number, cells-here}
 
 -- the bytes of the i-th leg
 abbrev pub entryAt : Bytes → ℕ → Bytes

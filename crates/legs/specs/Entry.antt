@@ -2,11 +2,11 @@
 use mathlib.Core.Path.{_≡_, refl, sym, ap, _∙_, subst}
 use mathlib.Core.Bool.{Bool, true, false}
 use mathlib.Core.List.{List, [], _∷_, _++_, map, append-assoc, append-nil}
-use Prim.Native.Nat.{ℕ, _+_, _*_, _<_}
+use Prim.Native.Nat.{ℕ, _+_, _*_, _≤_, _<_}
 use native.Mathlib.Nat.{add-zero}
 use native.Mathlib.Omega.{arith}
 use lib.Dec.{eqb, lit≤, lit<}
-use lib.Seq.{length-take-le, getD-take, getD-drop}
+use lib.Seq.{length-take-le, drop-drop}
 use lib.ListN.{length, take, drop, getD, replicate, length-drop}
 use mir.Syntax.{w32, w64}
 use mir.Val.{Fits}
@@ -16,9 +16,14 @@ use Rattle.rules.specs.Data.{Leg}
 use Rattle.laws.specs.Shift.{fit-at, shown}
 use Rattle.laws.specs.Splice.{length-digits, Wrote}
 use Rattle.laws.specs.Round.{more-digits}
-use Rattle.laws.specs.Cell.{num, byteOf, flagOf, Optional, flag-shows, flag-code}
-use Rattle.laws.specs.Chunk.{chunks}
-use Rattle.laws.specs.Fields.{cuts, cuts-at, joined, cuts-joined, length-joined, sum}
+use Rattle.laws.specs.Cell.{num, byteOf, flagOf, textOf, Text, Optional, flag-shows, flag-code}
+use Rattle.laws.specs.Buffer.{kept-length}
+use Rattle.laws.specs.Chunk.{chunks, joined}
+use Rattle.laws.specs.Fields.{cuts, cuts-at, cuts-joined, sum}
+use Rattle.node_addr.specs.View.{FitMessage, viewMessage}
+use Rattle.node_addr.specs.Alike.{byte-here, part-of}
+use Rattle.node_addr.specs.Place.{messageOf, MessageCell, messageCell, message-parts}
+use Rattle.node_addr.specs.declared.Message as message
 use Rattle.legs.specs.declared.leg.Leg as leg
 use Rattle.legs.specs.View.{legWs, cell, legFrom, legOf, BlankCells, FitCells, FitLegCell, viewLegs, FitLegs, legCount, noLeg, legAt, viewLeg, BlankLeg, FitLeg}
 
@@ -39,12 +44,12 @@ abbrev pub endBytes : leg.Leg → Bytes
 endBytes l = (one (l .answer) ∷ []) ++ (one (l .named) ∷ []) ++ l .peer .0 ++ (one (l .marked) ∷ []) ++ (one (l .replaces) ∷ []) ++ digits 8 (l .epoch) ++ l .digest .0
 
 bytes-are : (l : leg.Leg)
-    → timeBytes l ++ endBytes l ++ ((l .msg1 .len ∷ []) ++ l .msg1 .bytes) ++ ((l .msg2 .len ∷ []) ++ l .msg2 .bytes) ≡ legBytes l
-unfolding legBytes joined
+    → timeBytes l ++ endBytes l ++ messageCell (l .msg1) ++ messageCell (l .msg2) ≡ legBytes l
+unfolding legBytes joined messageCell
 bytes-are l = simp (append-assoc, append-nil)
 
 pub put-leg-is : (l : leg.Leg) {xs : Bytes} {at : ℕ} {ys : Bytes} {r : ℕ}
-    → Wrote xs at 351 (timeBytes l ++ endBytes l ++ ((l .msg1 .len ∷ []) ++ l .msg1 .bytes) ++ ((l .msg2 .len ∷ []) ++ l .msg2 .bytes)) ys r → Wrote xs at 351 (legBytes l) ys r
+    → Wrote xs at 351 (timeBytes l ++ endBytes l ++ messageCell (l .msg1) ++ messageCell (l .msg2)) ys r → Wrote xs at 351 (legBytes l) ys r
 put-leg-is l {xs} {at} {ys} {r} w = subst (λ (b : Bytes). Wrote xs at 351 b ys r) (bytes-are l) w
 
 -- ---- what was written is read
@@ -129,10 +134,7 @@ leg-bytes l f b =
       more-digits 8 (l .epoch) (b .epoch .fits),
     )
 
--- ---- a byte, where it stands
-pub byte-here : (s : Bytes) (at : ℕ) → getD s at 0 ≡ byteOf (take 1 (drop at s))
-byte-here s at = sym (getD-take 1 (drop at s) 0 0 (lit< tt) ∙ getD-drop at s 0 0 ∙ rw add-zero)
-
+-- ---- a flag, where it stands
 pub flag-here : (s : Bytes) (at : ℕ) → eqb (getD s at 0) 1 ≡ flagOf (take 1 (drop at s))
 flag-here s at = ap (λ (x : ℕ). eqb x 1) (byte-here s at)
 
@@ -162,10 +164,10 @@ pub record Loaded (l : leg.Leg) (a : ℕ) (s : Bytes) : Type 0 where
   pub replaces : l .replaces ≡ flagOf (take 1 (drop (a + 52) s))
   pub epoch : l .epoch ≡ num (take 8 (drop (a + 53) s))
   pub digest : l .digest .0 ≡ take 32 (drop (a + 61) s)
-  pub len1 : l .msg1 .len ≡ byteOf (take 1 (drop (a + 93) s))
-  pub msg1 : l .msg1 .bytes ≡ take 128 (drop (a + 93 + 1) s)
-  pub len2 : l .msg2 .len ≡ byteOf (take 1 (drop (a + 222) s))
-  pub msg2 : l .msg2 .bytes ≡ take 128 (drop (a + 222 + 1) s)
+  pub fit1 : FitMessage (l .msg1)
+  pub msg1 : viewMessage (l .msg1) ≡ messageOf (take 129 (drop (a + 93) s))
+  pub fit2 : FitMessage (l .msg2)
+  pub msg2 : viewMessage (l .msg2) ≡ messageOf (take 129 (drop (a + 222) s))
 
 -- where the flag is not set
 clear : {f s : Bytes} {w : ℕ} {b : Bool} → Optional w f s → b ≡ flagOf f → b ≡ false → s ≡ replicate w 0
@@ -178,33 +180,62 @@ num-zeros = refl
 one-more : (a o : ℕ) → a + o + 1 ≡ a + (o + 1)
 one-more a o = omega arith
 
+-- a message at a place, as a length and its bytes
+message-is : (s : Bytes) (a o : ℕ) → messageOf (take 129 (drop (a + o) s)) ≡ textOf (take 1 (drop (a + o) s)) (take 128 (drop (a + (o + 1)) s))
+message-is s a o = message-parts s (a + o) ∙ ap (λ (k : ℕ). textOf (take 1 (drop (a + o) s)) (take 128 (drop k s))) (one-more a o)
+
+-- an empty message is blank
+blank-message : {m : message.Message} → FitMessage m → viewMessage m ≡ [] → (m .len ≡ 0) × (m .bytes ≡ replicate 128 0)
+blank-message {m} f e =
+    let z : m .len ≡ 0 = sym (kept-length (f .kept)) ∙ ap length e in
+    (z, rw z at (f .kept .rest))
+
 blank-loaded : (l : leg.Leg) (s : Bytes) (i : ℕ) → Loaded l (i * 351) s → BlankCells (cuts (i * 351) 0 legWs s) → BlankLeg l
 unfolding more
-blank-loaded l s i r b = record {
-  marked = r .marked ∙ rw (b .marked);
-  replaces = r .replaces ∙ rw (b .replaces);
-  epoch = r .epoch ∙ rw (b .epoch);
-  digest = r .digest ∙ b .digest;
-  len2 = r .len2 ∙ rw (b .len2);
-  msg2 = r .msg2 ∙ ap (λ (k : ℕ). take 128 (drop k s)) (one-more (i * 351) 222) ∙ b .msg2;
-}
+blank-loaded l s i r b =
+    let m = blank-message (r .fit2) (r .msg2 ∙ message-is s (i * 351) 222 ∙ rw (b .len2)) in
+    record {
+      marked = r .marked ∙ rw (b .marked);
+      replaces = r .replaces ∙ rw (b .replaces);
+      epoch = r .epoch ∙ rw (b .epoch);
+      digest = r .digest ∙ b .digest;
+      len2 = m .0;
+      msg2 = m .1;
+    }
 
 pub leg-loaded : (s : Bytes) (i : ℕ) (l : leg.Leg) → FitLegs s → i < legCount s → Loaded l (i * 351) s → FitLeg l × (viewLeg l ≡ legAt s i)
 leg-loaded s i l f h r =
     let z : i * 351 + 0 ≡ i * 351 = add-zero (i * 351) in
-    let x : i * 351 + 93 + 1 ≡ i * 351 + 94 = one-more (i * 351) 93 in
-    let y : i * 351 + 222 + 1 ≡ i * 351 + 223 = one-more (i * 351) 222 in
     let k = fit-here s i f h in
     let v : viewLeg l ≡ legFrom (cuts (i * 351) 0 legWs s) =
-    rw (r .link, r .deadline, r .timed, r .next, r .sent, r .lease, r .answer, r .named, r .peer, r .marked, r .replaces, r .epoch, r .digest, r .len1, r .msg1, r .len2, r .msg2, x, y, z) in (
+    rw (r .link, r .deadline, r .timed, r .next, r .sent, r .lease, r .answer, r .named, r .peer, r .marked, r .replaces, r .epoch, r .digest, r .msg1, r .msg2, message-is s (i * 351) 93, message-is s (i * 351) 222, z) in (
       record {
         peer = rw (r .peer) (k .peer .size);
         digest = rw (r .digest) (length-take-le 32 (drop (i * 351 + 61) s) (rw length-drop (omega arith)));
-        msg1 = record { kept = rw (r .len1, r .msg1, x) (k .msg1 .kept) };
-        msg2 = record { kept = rw (r .len2, r .msg2, y) (k .msg2 .kept) };
+        msg1 = r .fit1;
+        msg2 = r .fit2;
         untimed = λ e. r .next ∙ ap num (clear (k .next) (r .timed) e) ∙ num-zeros;
         unnamed = λ e. r .peer ∙ clear (k .peer) (r .named) e;
         dial = λ e. blank-loaded l s i r (k .dial (sym (r .answer) ∙ e));
       },
       v ∙ leg-here s i f h,
     )
+
+-- a message's cell is canonical
+module _ {s : Bytes} {i : ℕ} (f : FitLegs s) (h : i < legCount s) where
+  cell-at : (o : ℕ) → o + 129 ≤ 351 → Text 128 (take 1 (drop (i * 351 + o) s)) (take 128 (drop (i * 351 + (o + 1)) s)) → MessageCell (take 129 (drop (i * 351 + o) s))
+  cell-at o p t = record {
+    size = length-take-le 129 (drop (i * 351 + o) s) (rw length-drop (omega arith));
+    text = rw (part-of 0 1 129 (drop (i * 351 + o) s) (lit≤ tt), tail-is) t;
+  }
+    where
+      tail-is : take 128 (drop 1 (take 129 (drop (i * 351 + o) s))) ≡ take 128 (drop (i * 351 + (o + 1)) s)
+      tail-is =
+          part-of 1 128 129 (drop (i * 351 + o) s) (lit≤ tt) ∙ ap (λ (u : Bytes). take 128 u) (drop-drop 1 (i * 351 + o) s)
+          ∙ ap (λ (k : ℕ). take 128 (drop k s)) (one-more (i * 351) o)
+
+  pub msg1-cell : MessageCell (take 129 (drop (i * 351 + 93) s))
+  msg1-cell = cell-at 93 (lit≤ tt) (fit-here s i f h .msg1)
+
+  pub msg2-cell : MessageCell (take 129 (drop (i * 351 + 222) s))
+  msg2-cell = cell-at 222 (lit≤ tt) (fit-here s i f h .msg2)

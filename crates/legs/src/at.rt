@@ -3,12 +3,12 @@ use crate::cell::get_flag;
 use crate::cell::get_len;
 use memory::compare::same_128;
 use memory::read::get_be;
-use memory::read::take_16;
-use memory::read::take_32;
 use node_addr::Digest;
 use node_addr::LinkNo;
 use node_addr::Message;
 use node_addr::NodeAddr;
+use node_addr::place::load_digest;
+use node_addr::place::load_node;
 ghost use mathlib.Core.Path.{_≡_};
 ghost use mathlib.Core.Bool.{Bool, true, false};
 ghost use mathlib.Core.Option.{Option, none, some};
@@ -69,8 +69,7 @@ pub fn peer_at(s: &[u8], i: usize) -> NodeAddr
     requires { ⌜ i < legCount (now s) ⌝ }
     ensures { λ r. ⌜ r .0 ≡ namedPeer (legAt (now (s .entry)) i) ⌝ }
 {
-    let b = take_16(s, i * 351 + 35);
-    NodeAddr(b)
+    load_node(s, i * 351 + 35)
 }
 
 // Whether a resend is to come.
@@ -106,8 +105,7 @@ pub fn digest_at(s: &[u8], i: usize) -> Digest
     requires { ⌜ i < legCount (now s) ⌝ }
     ensures { λ r. ⌜ r .0 ≡ answerOf (legAt (now (s .entry)) i) .ephemeral ⌝ }
 {
-    let b = take_32(s, i * 351 + 61);
-    Digest(b)
+    load_digest(s, i * 351 + 61)
 }
 
 // Whether the answer displaced a holder.

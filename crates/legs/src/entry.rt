@@ -1,18 +1,16 @@
 // A leg read from its entry, and written to it.
 use crate::cell::get_flag;
-use crate::cell::get_message;
 use crate::cell::put_flag;
-use crate::cell::put_message;
 use crate::leg::Leg;
 use memory::read::get_be;
-use memory::read::take_16;
-use memory::read::take_32;
-use memory::write::put_16;
-use memory::write::put_32;
 use memory::write::put_be;
-use node_addr::Digest;
 use node_addr::LinkNo;
-use node_addr::NodeAddr;
+use node_addr::place::load_digest;
+use node_addr::place::load_message;
+use node_addr::place::load_node;
+use node_addr::place::put_digest;
+use node_addr::place::put_message;
+use node_addr::place::put_node;
 ghost use mathlib.Core.Path.{_≡_};
 ghost use Prim.Native.Nat.{ℕ, _+_, _≤_, _<_};
 ghost use lib.ListN.{length};
@@ -29,10 +27,10 @@ pub fn get_leg(s: &[u8], i: usize) -> Leg
 {
     let a = i * 351;
     let link = get_be(s, a, 8);
-    let peer = take_16(s, a + 35);
-    let digest = take_32(s, a + 61);
-    let msg1 = get_message(s, a + 93);
-    let msg2 = get_message(s, a + 222);
+    let peer = load_node(s, a + 35);
+    let digest = load_digest(s, a + 61);
+    let msg1 = load_message(s, a + 93);
+    let msg2 = load_message(s, a + 222);
     Leg {
         link: LinkNo(link),
         deadline: get_be(s, a + 8, 8),
@@ -42,11 +40,11 @@ pub fn get_leg(s: &[u8], i: usize) -> Leg
         lease: get_be(s, a + 29, 4) as u32,
         answer: get_flag(s, a + 33),
         named: get_flag(s, a + 34),
-        peer: NodeAddr(peer),
+        peer: peer,
         marked: get_flag(s, a + 51),
         replaces: get_flag(s, a + 52),
         epoch: get_be(s, a + 53, 8),
-        digest: Digest(digest),
+        digest: digest,
         msg1: msg1,
         msg2: msg2,
     }
@@ -68,15 +66,15 @@ fn put_ends(s: &mut [u8], at: usize, l: Leg) -> usize
     requires { ⌜ at + 60 ≤ length (now s) ⌝ }
     ensures { λ r. ⌜ Wrote (now (s .entry)) at 60 (endBytes l) (now (s .exit)) r ⌝ }
 {
-    let peer = l.peer.0;
-    let digest = l.digest.0;
+    let peer = l.peer;
+    let digest = l.digest;
     let a = put_flag(s, at, l.answer);
     let b = put_flag(s, a, l.named);
-    let c = put_16(s, b, peer);
+    let c = put_node(s, b, peer);
     let d = put_flag(s, c, l.marked);
     let e = put_flag(s, d, l.replaces);
     let f = put_be(s, e, l.epoch, 8);
-    put_32(s, f, digest)
+    put_digest(s, f, digest)
 }
 
 // The bytes of a leg, at a place.

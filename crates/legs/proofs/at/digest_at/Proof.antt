@@ -5,7 +5,7 @@ use Rattle.legs.proofs.at.digest_at.Statement.{statement}
 use Rattle.legs.proofs.at.digest_at.Tie as tie
 
 returns : tie.Need-returns
-returns c = c .take-32 .ensures ∙ digest-here (c .before .before .pre .0) (c .before .before .pre .1)
+returns c = c .load-digest .ensures ∙ digest-here (c .before .before .pre .0) (c .before .before .pre .1)
 
 pub digest-at-spec : {M : Type 1} → statement M
 digest-at-spec = tie.close (tie.spec (λ c. search needs) (λ c. search needs) (λ c κs. search needs) returns)

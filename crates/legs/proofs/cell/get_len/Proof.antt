@@ -1,5 +1,5 @@
 use native.Mathlib.Omega.{arith}
-use Rattle.legs.specs.Entry.{byte-here}
+use Rattle.node_addr.specs.Alike.{byte-here}
 use borrow.Author.Needs.{needs}
 use Rattle.legs.proofs.cell.get_len.Statement.{statement}
 use Rattle.legs.proofs.cell.get_len.Tie as tie

@@ -1,8 +1,14 @@
-use Rattle.legs.specs.Entry.{leg-loaded}
+use Rattle.legs.specs.Entry.{leg-loaded, msg1-cell, msg2-cell}
 use native.Mathlib.Omega.{arith}
 use borrow.Author.Needs.{needs}
 use Rattle.legs.proofs.entry.get_leg.Statement.{statement}
 use Rattle.legs.proofs.entry.get_leg.Tie as tie
+
+load-message-requires : tie.Need-load-message-requires
+load-message-requires c κs = (search needs, msg1-cell (c .before .before .before .before .pre .0) (c .before .before .before .before .pre .1))
+
+load-message-requires-2 : tie.Need-load-message-requires-2
+load-message-requires-2 c κs = (search needs, msg2-cell (c .before .before .before .before .before .pre .0) (c .before .before .before .before .before .pre .1))
 
 add-get-flag-2 : tie.Need-add-get-flag-2
 add-get-flag-2 c = omega (arith, c .before .before .before .before .before .before .before .before)
@@ -44,15 +50,15 @@ returns c = leg-loaded _ _ _ (c .before .before .before .before .before .before 
   lease = c .before .before .before .before .before .get-be5 .ensures .0;
   answer = c .before .before .before .before .get-flag2 .ensures;
   named = c .before .before .before .get-flag3 .ensures;
-  peer = c .before .before .before .before .before .before .before .before .before .before .before .before .before .take-16 .ensures;
+  peer = c .before .before .before .before .before .before .before .before .before .before .before .before .before .load-node .ensures;
   marked = c .before .before .get-flag4 .ensures;
   replaces = c .before .get-flag5 .ensures;
   epoch = c .get-be6 .ensures .0;
-  digest = c .before .before .before .before .before .before .before .before .before .before .before .before .take-32 .ensures;
-  len1 = c .before .before .before .before .before .before .before .before .before .before .before .get-message .ensures .0;
-  msg1 = c .before .before .before .before .before .before .before .before .before .before .before .get-message .ensures .1;
-  len2 = c .before .before .before .before .before .before .before .before .before .before .get-message2 .ensures .0;
-  msg2 = c .before .before .before .before .before .before .before .before .before .before .get-message2 .ensures .1;
+  digest = c .before .before .before .before .before .before .before .before .before .before .before .before .load-digest .ensures;
+  fit1 = c .before .before .before .before .before .before .before .before .before .before .before .load-message .ensures .0;
+  msg1 = c .before .before .before .before .before .before .before .before .before .before .before .load-message .ensures .1;
+  fit2 = c .before .before .before .before .before .before .before .before .before .before .load-message2 .ensures .0;
+  msg2 = c .before .before .before .before .before .before .before .before .before .before .load-message2 .ensures .1;
 })
 
 pub get-leg-spec : {M : Type 1} → statement M
@@ -66,7 +72,9 @@ get-leg-spec =
     (λ c. search needs)
     (λ c κs. search needs)
     (λ c. search needs)
-    (λ c κs. search needs)
+    load-message-requires
+    (λ c. search needs)
+    load-message-requires-2
     (λ c. search needs)
     (λ c κs. search needs)
     (λ c. search needs)
@@ -76,10 +84,8 @@ get-leg-spec =
     (λ c. search needs)
     (λ c κs. search needs)
     (λ c. search needs)
-    (λ c κs. search needs)
-    (λ c. search needs)
-    (λ c. search needs)
-    (λ c κs. search needs)
+    (λ c. omega (arith, c .before .before .before .before .before .before .before))
+    (λ c κs. (search needs, omega (arith, c .before .before .before .before .before .before .before)))
     (λ c. search needs)
     add-get-flag-2
     get-flag-requires-2
