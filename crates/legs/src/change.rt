@@ -1,12 +1,12 @@
 // Changes of the i-th leg, in place.
+use crate::cell::put_flag;
+use crate::leg::Again;
 use memory::read::get_be;
 use memory::read::get_byte;
 use memory::write::put_be;
 use memory::write::put_byte;
 use params::Params;
 use params::time::resend_at;
-use crate::cell::put_flag;
-use crate::leg::Again;
 ghost use mathlib.Core.Path.{_≡_};
 ghost use mathlib.Core.List.{List, [], _∷_, _++_};
 ghost use Prim.Native.Nat.{ℕ, _+_, _≤_, _<_};
@@ -35,7 +35,10 @@ fn next_resend(c: Params, clock: u64, n: u32) -> Again
     ensures { λ r. ⌜ Next (viewParams c) clock n (r .some) (r .at) ⌝ }
 {
     if n < c.resends {
-        return Again { some: true, at: resend_at(clock, n, c.resend) };
+        return Again {
+            some: true,
+            at: resend_at(clock, n, c.resend),
+        };
     }
     Again { some: false, at: 0 }
 }

@@ -1,10 +1,10 @@
 // A leg by value.
-use node_addr::blank_digest;
-use node_addr::blank_message;
 use node_addr::Digest;
 use node_addr::LinkNo;
 use node_addr::Message;
 use node_addr::NodeAddr;
+use node_addr::blank_digest;
+use node_addr::blank_message;
 use params::Params;
 use params::time::deadline;
 ghost use mathlib.Core.Path.{_≡_};
@@ -45,7 +45,10 @@ fn first_resend(c: Params, clock: u64) -> Again
     ensures { λ r. ⌜ First (viewParams c) clock (r .some) (r .at) ⌝ }
 {
     if 0 < c.resends {
-        return Again { some: true, at: deadline(clock, c.resend) };
+        return Again {
+            some: true,
+            at: deadline(clock, c.resend),
+        };
     }
     Again { some: false, at: 0 }
 }
@@ -79,7 +82,18 @@ pub fn dial_leg(c: Params, clock: u64, n: LinkNo, peer: NodeAddr, msg1: Message,
 }
 
 // This node answered a msg1.
-pub fn answer_leg(c: Params, clock: u64, n: LinkNo, peer: NodeAddr, msg1: Message, digest: Digest, epoch: u64, msg2: Message, lease: u32, replaces: bool) -> Leg
+pub fn answer_leg(
+    c: Params,
+    clock: u64,
+    n: LinkNo,
+    peer: NodeAddr,
+    msg1: Message,
+    digest: Digest,
+    epoch: u64,
+    msg2: Message,
+    lease: u32,
+    replaces: bool,
+) -> Leg
     requires { ⌜ FitMessage msg1 ⌝ }
     requires { ⌜ FitMessage msg2 ⌝ }
     ensures { λ r. ⌜ FitLeg r ⌝ }

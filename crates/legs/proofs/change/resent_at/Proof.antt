@@ -13,7 +13,7 @@ use Rattle.legs.proofs.change.resent_at.Statement.{statement}
 use Rattle.legs.proofs.change.resent_at.Tie as tie
 
 returns : tie.Need-returns
-returns c = 
+returns c =
     let e = c .before .before .before .before .before .one-more .ensures ∙ ap (λ (x : ℕ). saturatingAdd x 1) (c .before .before .before .before .before .before .get-be .ensures .0 ∙ sent-here (c .before .before .before .before .before .before .before .before .before .pre .0) (c .before .before .before .before .before .before .before .before .before .pre .1)) in
     let k = set-again _ _ _ _ (c .before .before .put-again .ensures) (c .before .before .before .before .before .before .before .before .before .pre .0) (c .before .before .before .before .before .before .before .before .before .pre .1) (c .before .before .before .before .next-resend .ensures .blank) (search needs) (search needs) in
     (k .0, k .1 ∙ ap (λ (g : Leg). set (viewLegs (c .before .before .before .before .before .before .before .before .before .args .s .now)) (c .before .before .before .before .before .before .before .before .before .args .i) g) (resent-is (viewParams (c .before .before .before .before .before .before .before .before .before .args .c)) (c .before .before .before .before .before .before .before .before .before .args .clock) (legAt (c .before .before .before .before .before .before .before .before .before .args .s .now) (c .before .before .before .before .before .before .before .before .before .args .i)) e (c .before .before .before .before .next-resend .ensures)))

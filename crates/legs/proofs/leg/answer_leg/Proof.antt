@@ -8,7 +8,8 @@ use Rattle.legs.proofs.leg.answer_leg.Tie as tie
 
 returns : tie.Need-returns
 unfolding answerLeg
-returns c = (record {
+returns c = (
+  record {
     peer = search needs;
     digest = search needs;
     msg1 = c .before .pre .0;
@@ -16,7 +17,9 @@ returns c = (record {
     untimed = λ e. refl;
     unnamed = λ e. cc;
     dial = λ e. let z : _≡_ {A = ℕ} 0 1 = cc in absurd (omega arith);
-    }, λ from. rw (c .deadline .ensures))
+  },
+  λ from. rw (c .deadline .ensures),
+)
 
 pub answer-leg-spec : {M : Type 1} → statement M
 answer-leg-spec = tie.close (tie.spec (λ c κs. search needs) returns)

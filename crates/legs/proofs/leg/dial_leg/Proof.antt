@@ -7,7 +7,8 @@ use Rattle.legs.proofs.leg.dial_leg.Tie as tie
 
 returns : tie.Need-returns
 unfolding dialLeg
-returns c = (record {
+returns c = (
+  record {
     peer = search needs;
     digest = rw (c .before .before .blank-digest .ensures);
     msg1 = c .before .before .before .before .pre;
@@ -15,7 +16,9 @@ returns c = (record {
     untimed = c .before .before .before .first-resend .ensures .blank;
     unnamed = λ e. cc;
     dial = λ e. record { marked = refl; replaces = refl; epoch = refl; digest = rw (c .before .before .blank-digest .ensures); len2 = rw (c .before .blank-message .ensures); msg2 = rw (c .before .blank-message .ensures) };
-    }, rw (c .before .before .before .first-resend .ensures .is, c .deadline .ensures))
+  },
+  rw (c .before .before .before .first-resend .ensures .is, c .deadline .ensures),
+)
 
 pub dial-leg-spec : {M : Type 1} → statement M
 dial-leg-spec =
