@@ -6,3 +6,4 @@ pub mod entry;
 pub mod leg;
 pub mod map;
 pub mod poll;
+pub mod stored;

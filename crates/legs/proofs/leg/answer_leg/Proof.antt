@@ -1,7 +1,7 @@
 use native.Mathlib.Omega.{arith}
 use Prim.Native.Nat.{ℕ}
 use Rattle.rules.specs.Legs.{answerLeg}
-use mathlib.Core.Path.{refl}
+use mathlib.Core.Path.{_≡_, refl}
 use borrow.Author.Needs.{needs}
 use Rattle.legs.proofs.leg.answer_leg.Statement.{statement}
 use Rattle.legs.proofs.leg.answer_leg.Tie as tie
