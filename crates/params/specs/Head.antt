@@ -138,6 +138,10 @@ pub settings-length : (p : params.Params) → length (settingsCell p) ≡ 74
 unfolding sum
 settings-length p = ap length (settings-joined p) ∙ length-joined (settingsFields p) ∙ ap sum (settings-widths p)
 
+pub settings-written : (p : params.Params) {xs : Bytes} {at : ℕ} {ys : Bytes} {r : ℕ} → Wrote xs at 74 (spansCell p ++ countsCell p) ys r → Wrote xs at 74 (settingsCell p) ys r
+unfolding settingsCell
+settings-written p w = w
+
 -- each number fits its type
 pub record Within (p : params.Params) : Type 0 where
   pub unheard : Fits w64 (p .unheard)
@@ -174,12 +178,12 @@ module _ {s ys : Bytes} {r : ℕ} (z : length s ≡ 98) where
   me-written {who} w =
       let h : length who ≡ 16 = w .size in
       rw (w .is) (
-        record {
-          size = length-splice s 0 who (omega arith) ∙ z;
-          me = part-same 16 s 0 who (omega arith) h;
-          params = rw (part-after 16 74 s 0 who (omega arith) (omega arith));
-          next = rw (part-after 90 8 s 0 who (omega arith) (omega arith));
-        }
+      record {
+        size = length-splice s 0 who (omega arith) ∙ z;
+        me = part-same 16 s 0 who (omega arith) h;
+        params = rw (part-after 16 74 s 0 who (omega arith) (omega arith));
+        next = rw (part-after 90 8 s 0 who (omega arith) (omega arith));
+      }
       )
 
   pub params-written : {p : params.Params} → Wrote s 16 74 (settingsCell p) ys r → Within p → Shows ys (viewMe s) (viewParams p) (viewNext s)
@@ -187,12 +191,12 @@ module _ {s ys : Bytes} {r : ℕ} (z : length s ≡ 98) where
   params-written {p} w b =
       let h : length (settingsCell p) ≡ 74 = w .size in
       rw (w .is) (
-        record {
-          size = length-splice s 16 (settingsCell p) (omega arith) ∙ z;
-          me = part-before 0 16 s 16 (settingsCell p) (lit≤ tt) (omega arith);
-          params = ap (λ (c : Bytes). settingsFrom (cuts 0 0 settingsWs c)) (part-same 74 s 16 (settingsCell p) (omega arith) h) ∙ settings-shows p b;
-          next = rw (part-after 90 8 s 16 (settingsCell p) (omega arith) (omega arith));
-        }
+      record {
+        size = length-splice s 16 (settingsCell p) (omega arith) ∙ z;
+        me = part-before 0 16 s 16 (settingsCell p) (lit≤ tt) (omega arith);
+        params = ap (λ (c : Bytes). settingsFrom (cuts 0 0 settingsWs c)) (part-same 74 s 16 (settingsCell p) (omega arith) h) ∙ settings-shows p b;
+        next = rw (part-after 90 8 s 16 (settingsCell p) (omega arith) (omega arith));
+      }
       )
 
   pub next-written : {n : ℕ} → Wrote s 90 8 (digits 8 n) ys r → Fits w64 n → Shows ys (viewMe s) (paramsOf s) n
@@ -200,12 +204,12 @@ module _ {s ys : Bytes} {r : ℕ} (z : length s ≡ 98) where
   next-written {n} w b =
       let h : length (digits 8 n) ≡ 8 = w .size in
       rw (w .is) (
-        record {
-          size = length-splice s 90 (digits 8 n) (omega arith) ∙ z;
-          me = part-before 0 16 s 90 (digits 8 n) (lit≤ tt) (omega arith);
-          params = rw (part-before 16 74 s 90 (digits 8 n) (lit≤ tt) (omega arith));
-          next = rw (part-same 8 s 90 (digits 8 n) (omega arith) h) (more-digits 8 n (b .fits));
-        }
+      record {
+        size = length-splice s 90 (digits 8 n) (omega arith) ∙ z;
+        me = part-before 0 16 s 90 (digits 8 n) (lit≤ tt) (omega arith);
+        params = rw (part-before 16 74 s 90 (digits 8 n) (lit≤ tt) (omega arith));
+        next = rw (part-same 8 s 90 (digits 8 n) (omega arith) h) (more-digits 8 n (b .fits));
+      }
       )
 
 pub shows-keeps : {s t who : Bytes} {n : ℕ} → FitHead s → Shows t who (paramsOf s) n → FitHead t
@@ -259,26 +263,26 @@ head-whole : (s : Bytes) → length s ≡ 98 → s ≡ take 16 s ++ (take 74 (dr
 head-whole s h =
     sym (take-append-drop 16 s)
     ∙ ap (λ (u : Bytes). take 16 s ++ u) (
-      sym (take-append-drop 74 (drop 16 s))
-      ∙ ap (λ (u : Bytes). take 74 (drop 16 s) ++ u) (drop-drop 74 16 s ∙ sym (take-all 8 (drop 90 s) (rw length-drop (omega arith))))
+    sym (take-append-drop 74 (drop 16 s))
+    ∙ ap (λ (u : Bytes). take 74 (drop 16 s) ++ u) (drop-drop 74 16 s ∙ sym (take-all 8 (drop 90 s) (rw length-drop (omega arith))))
     )
 
 pub head-same : {s t : Bytes} → FitHead s → FitHead t → All IsByte s → All IsByte t → viewMe s ≡ viewMe t → paramsOf s ≡ paramsOf t → viewNext s ≡ viewNext t → s ≡ t
 unfolding paramsOf
 head-same {s} {t} a b x y m p n =
     let c : take 74 (drop 16 s) ≡ take 74 (drop 16 t) = settings-same
-      (take 74 (drop 16 s))
-      (take 74 (drop 16 t))
-      (simp (length-take, length-drop) (omega (arith, a .size)))
-      (simp (length-take, length-drop) (omega (arith, b .size)))
-      (all-take IsByte 74 (drop 16 s) (all-drop IsByte 16 s x))
-      (all-take IsByte 74 (drop 16 t) (all-drop IsByte 16 t y))
-      p in
+    (take 74 (drop 16 s))
+    (take 74 (drop 16 t))
+    (simp (length-take, length-drop) (omega (arith, a .size)))
+    (simp (length-take, length-drop) (omega (arith, b .size)))
+    (all-take IsByte 74 (drop 16 s) (all-drop IsByte 16 s x))
+    (all-take IsByte 74 (drop 16 t) (all-drop IsByte 16 t y))
+    p in
     let e : take 8 (drop 90 s) ≡ take 8 (drop 90 t) = num-same
-      (take 8 (drop 90 s))
-      (take 8 (drop 90 t))
-      (all-take IsByte 8 (drop 90 s) (all-drop IsByte 90 s x))
-      (all-take IsByte 8 (drop 90 t) (all-drop IsByte 90 t y))
-      (simp (length-take, length-drop) (omega (arith, a .size, b .size)))
-      n in
+    (take 8 (drop 90 s))
+    (take 8 (drop 90 t))
+    (all-take IsByte 8 (drop 90 s) (all-drop IsByte 90 s x))
+    (all-take IsByte 8 (drop 90 t) (all-drop IsByte 90 t y))
+    (simp (length-take, length-drop) (omega (arith, a .size, b .size)))
+    n in
     head-whole s (a .size) ∙ rw (m, c, e) (sym (head-whole t (b .size)))
