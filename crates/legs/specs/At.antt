@@ -2,22 +2,22 @@
 use mathlib.Core.Path.{_≡_, refl, sym, ap, _∙_}
 use mathlib.Core.Bool.{Bool, true, false, not, _||_}
 use mathlib.Core.Option.{Option, none, some}
-use mathlib.Core.List.{List, [], _∷_}
+use mathlib.Core.List.{List, []}
 use Prim.Native.Nat.{ℕ, _+_, _*_, _≤_, _<_}
 use native.Mathlib.Nat.{add-zero}
 use native.Mathlib.Omega.{arith}
 use lib.Dec.{leb, ltb, lit≤}
 use borrow.Author.Tests.{lt-ltb, le-ltb, le-leb, lt-leb}
 use lib.Seq.{take-take, length-take-le}
-use lib.ListN.{length, take, drop, getD, replicate, length-drop}
+use lib.ListN.{length, take, drop, replicate, length-drop}
 use Rattle.rules.specs.Base.{if_then_else_, option, is, Bytes, same}
 use Rattle.rules.specs.Field.{more}
 use Rattle.rules.specs.Data.{Kind, Answered, Leg}
 use Rattle.rules.specs.Legs.{answered, answers, storedMsg2, due, wake}
-use Rattle.laws.specs.Cell.{num, byteOf, flagOf, textOf, optionNum, optionBytes}
+use Rattle.laws.specs.Cell.{num, byteOf, flagOf}
 use Rattle.laws.specs.Fields.{cuts}
 use Rattle.laws.specs.Beside.{same-apart}
-use Rattle.legs.specs.View.{legWs, cell, answerFrom, BlankCells, FitLegs, legCount, legAt}
+use Rattle.legs.specs.View.{legWs, answerFrom, BlankCells, FitLegs, legCount, legAt}
 use Rattle.legs.specs.Entry.{num-zeros, fit-here, leg-here}
 
 -- ---- an option's value, or the blank one
@@ -40,6 +40,9 @@ off {b = false} e q = sym e
 pub on : {b x : Bool} → b ≡ x → not b ≡ false → x ≡ true
 on {b = true} e q = sym e
 on {b = false} e q = cc
+
+pub clash : {b : Bool} → b ≡ true → b ≡ false → ⊥
+clash e q = let z : _≡_ {A = ℕ} 0 1 = cc in omega arith
 
 -- the peer that a leg names, zeros if none
 abbrev pub namedPeer : Leg → Bytes

@@ -3,27 +3,26 @@ use mathlib.Core.Path.{_≡_, refl, sym, ap, _∙_, subst}
 use mathlib.Core.Bool.{Bool, true, false}
 use mathlib.Core.Option.{Option, none, some}
 use mathlib.Core.List.{List, [], _∷_, _++_}
-use Prim.Native.Nat.{ℕ, suc, _+_, _*_, _^_, _≤_, _<_}
-use native.Mathlib.Nat.{suc-mul, mul-le-mul-right}
+use Prim.Native.Nat.{ℕ, _+_, _*_, _≤_, _<_}
 use native.Mathlib.Omega.{arith}
 use borrow.Author.Tests.{eqb-false}
-use lib.Dec.{eqb, lit≤, lit<, ltb}
-use lib.ListN.{length, take, drop, getD, set, replicate, length-append}
+use lib.Dec.{lit≤, lit<}
+use lib.ListN.{length, getD, set}
 use mir.Syntax.{w32, w64}
 use mir.Val.{Fits}
 use Rattle.rules.specs.Base.{if_then_else_, one, Bytes}
 use Rattle.rules.specs.Field.{digits}
-use Rattle.rules.specs.Data.{Kind, Answered, Leg}
+use Rattle.rules.specs.Data.{Kind, Leg}
 use Rattle.rules.specs.Legs.{sentKind, unsentKind, markSent, markUnsent, withKind}
 use Rattle.laws.specs.Shift.{fit-at, shown, replaced}
 use Rattle.laws.specs.Splice.{splice, splice-splice, length-splice, length-digits, Wrote}
 use Rattle.laws.specs.Round.{more-digits}
 use Rattle.laws.specs.Part.{getD-past}
-use Rattle.laws.specs.Cell.{num, byteOf, flagOf, Code, flag-shows, flag-code}
+use Rattle.laws.specs.Cell.{byteOf, flagOf, Code, flag-shows}
 use Rattle.laws.specs.Chunk.{chunks, chunk-size, chunks-splice}
 use Rattle.laws.specs.Fields.{cuts, cuts-set, sum}
 use Rattle.node_addr.specs.Alike.{byte-here}
-use Rattle.legs.specs.View.{legWs, cell, legFrom, legOf, kindFrom, BlankCells, FitCells, FitLegCell, viewLegs, FitLegs, legCount, noLeg, legAt}
+use Rattle.legs.specs.View.{legWs, cell, legFrom, legOf, FitCells, FitLegCell, viewLegs, FitLegs, legCount, noLeg, legAt}
 use Rattle.legs.specs.Entry.{optional-number, cells-here}
 
 -- the bytes of the i-th leg

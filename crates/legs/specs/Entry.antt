@@ -5,7 +5,7 @@ use mathlib.Core.List.{List, [], _∷_, _++_, map, append-assoc, append-nil}
 use Prim.Native.Nat.{ℕ, _+_, _*_, _≤_, _<_}
 use native.Mathlib.Nat.{add-zero}
 use native.Mathlib.Omega.{arith}
-use lib.Dec.{eqb, lit≤, lit<}
+use lib.Dec.{eqb, lit≤}
 use lib.Seq.{length-take-le, drop-drop}
 use lib.ListN.{length, take, drop, getD, replicate, length-drop}
 use mir.Syntax.{w32, w64}
@@ -16,7 +16,7 @@ use Rattle.rules.specs.Data.{Leg}
 use Rattle.laws.specs.Shift.{fit-at, shown}
 use Rattle.laws.specs.Splice.{length-digits, Wrote}
 use Rattle.laws.specs.Round.{more-digits}
-use Rattle.laws.specs.Cell.{num, byteOf, flagOf, textOf, Text, Optional, flag-shows, flag-code}
+use Rattle.laws.specs.Cell.{num, flagOf, textOf, Text, Optional, flag-shows, flag-code}
 use Rattle.laws.specs.Buffer.{kept-length}
 use Rattle.laws.specs.Chunk.{chunks, joined}
 use Rattle.laws.specs.Fields.{cuts, cuts-at, cuts-joined, sum}
@@ -25,7 +25,7 @@ use Rattle.node_addr.specs.Alike.{byte-here, part-of}
 use Rattle.node_addr.specs.Place.{messageOf, MessageCell, messageCell, message-parts}
 use Rattle.node_addr.specs.declared.Message as message
 use Rattle.legs.specs.declared.leg.Leg as leg
-use Rattle.legs.specs.View.{legWs, cell, legFrom, legOf, BlankCells, FitCells, FitLegCell, viewLegs, FitLegs, legCount, noLeg, legAt, viewLeg, BlankLeg, FitLeg}
+use Rattle.legs.specs.View.{legWs, cell, legFrom, legOf, BlankCells, FitCells, FitLegCell, FitLegs, legCount, noLeg, legAt, viewLeg, BlankLeg, FitLeg}
 
 -- ---- what is written
 abbrev pub legFields : leg.Leg → List Bytes

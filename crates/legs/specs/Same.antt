@@ -2,7 +2,7 @@
 use mathlib.Core.Path.{_≡_, refl, sym, ap, ap₂, _∙_}
 use mathlib.Core.Bool.{Bool, true, false}
 use mathlib.Core.List.{List, [], _∷_, _++_, map, tail}
-use Prim.Native.Nat.{ℕ, zero, suc, _+_, _*_, _≤_}
+use Prim.Native.Nat.{ℕ, zero, suc, _+_, _≤_}
 use native.Mathlib.Omega.{arith}
 use lib.Dec.{lit≤}
 use lib.Seq.{length-take-le, drop-drop}
@@ -15,7 +15,7 @@ use Rattle.laws.specs.Cell.{num, flagOf, num-same, flag-same, text-same, option
 use Rattle.laws.specs.Chunk.{chunks}
 use Rattle.laws.specs.Fields.{cuts, sum}
 use Rattle.laws.specs.Store.{Store, store-zeros, same-view}
-use Rattle.legs.specs.View.{legWs, cell, answerFrom, kindFrom, legOf, FitLegCell, viewLegs, FitLegs, fit-zeros}
+use Rattle.legs.specs.View.{legWs, answerFrom, kindFrom, legOf, FitLegCell, viewLegs, FitLegs, fit-zeros}
 
 -- ---- new memory
 pub fit-new : FitLegs (replicate 11233 0)

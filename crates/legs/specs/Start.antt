@@ -1,11 +1,11 @@
 -- The resends of a leg, and what an answer starts from.
-use mathlib.Core.Path.{_≡_, refl, sym, ap, _∙_}
+use mathlib.Core.Path.{_≡_, refl}
 use mathlib.Core.Bool.{Bool, true, false}
 use mathlib.Core.Option.{Option, none, some}
 use Prim.Native.Nat.{ℕ, _<_, _≤_}
 use borrow.Author.Tests.{lt-ltb, le-ltb}
 use lib.Dec.{ltb}
-use Rattle.rules.specs.Base.{if_then_else_, Bytes}
+use Rattle.rules.specs.Base.{if_then_else_}
 use Rattle.rules.specs.Std.{fromNanos, durationMax, saturatingAdd}
 use Rattle.rules.specs.Time.{Params, backoff, deadline}
 use Rattle.rules.specs.Data.{Pair, Hello, Leg}

@@ -3,7 +3,7 @@ use mathlib.Core.Path.{_≡_, refl, sym, ap, _∙_}
 use mathlib.Core.Bool.{Bool, true, false, not, _&&_, _||_}
 use mathlib.Core.Option.{Option, none, some}
 use mathlib.Core.List.{List, [], _∷_, map}
-use Prim.Native.Nat.{ℕ, zero, suc, _+_, _-_, _≤_, _<_}
+use Prim.Native.Nat.{ℕ, _+_, _≤_, _<_}
 use native.Mathlib.Numerals.{add-one}
 use native.Mathlib.Omega.{arith}
 use borrow.Author.Tests.{eqb-true}
@@ -14,7 +14,7 @@ use Rattle.rules.specs.Data.{Pair, samePair, PathRec, LinkRec, Answered, Leg}
 use Rattle.rules.specs.Links.{provenAt, indexed}
 use Rattle.rules.specs.Legs.{onLink, answered, storedMsg2}
 use Rattle.rules.specs.Settle.{Stored, storedOn, storedIn}
-use Rattle.laws.specs.Scan.{scan, scan-within}
+use Rattle.laws.specs.Scan.{scan}
 use Rattle.laws.specs.Place.{find-at, find-nowhere, place-passes, place-within}
 use Rattle.node_addr.specs.declared.Found.{Found}
 use Rattle.node_addr.specs.declared.Found.the-variants as foundv
@@ -35,6 +35,19 @@ Within foundv.Nothing n = Unit {0}
 pub record Tells (r : Found) (s : Bytes) (o : Option Stored) : Type 0 where
   pub within : Within r (legCount s)
   pub is : o ≡ storedFrom r s
+
+pub tells-no : {s : Bytes} {o : Option Stored} → o ≡ none → Tells foundv.Nothing s o
+tells-no e = record { within = tt; is = e }
+
+pub tells-none : {r : Found} {s : Bytes} {o : Option Stored} → Tells r s o → r ≡ foundv.Nothing → o ≡ none
+tells-none {s = s} t e = t .is ∙ ap (λ (r : Found). storedFrom r s) e
+
+-- what yields o yields p
+pub tells-on : {r : Found} {s : Bytes} {o p : Option Stored} {i : ℕ} → Tells r s o → r ≡ foundv.At i → ((z : Stored) → o ≡ some z → p ≡ some z) → Tells (foundv.At i) s p
+tells-on {s = s} {i = i} t e f = record {
+  within = rw e at (t .within);
+  is = f (record { link = legAt s i .link; msg2 = answerOf (legAt s i) .msg2 }) (t .is ∙ ap (λ (r : Found). storedFrom r s) e);
+}
 
 -- ---- what the leg on link n yields
 abbrev pub yieldOf : Bytes → List Leg → ℕ → Option Stored
@@ -129,6 +142,13 @@ module _ {o y : Option Stored} {bs : List Bool} {k j : ℕ} (a : Reaching o y bs
 
   pub reaching-end : k ≤ j → o ≡ none
   reaching-end h = a .left ∙ ap (λ (l : List Bool). if any holds l then y else none) (drop-of-length-le bs {i = j} (omega arith))
+
+-- one address: reached, or not
+pub by-none : {b : Bool} {s : Bytes} (y : Option Stored) → b ≡ false → Tells foundv.Nothing s (if b then y else none)
+by-none y e = tells-no (rw e)
+
+pub by-some : {b : Bool} {s : Bytes} {r : Found} (bs : Bytes) (ls : List Leg) {k n : ℕ} → b ≡ true → k ≡ n → Tells r s (yieldOf bs ls k) → Tells r s (if b then yieldOf bs ls n else none)
+by-some bs ls e q t = rw (e, ← q) t
 
 -- ---- the outer loop stands at i: o is what the links from there on yield
 pub record Looking (o : Option Stored) (p : Pair) (bs : Bytes) (s : List Leg) (ls : List LinkRec) (n i : ℕ) : Type 0 where

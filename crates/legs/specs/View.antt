@@ -1,16 +1,15 @@
 -- What the bytes of an entry, a region and a leg by value show, and their canonical form.
 use mathlib.Core.Path.{_≡_, refl}
-use mathlib.Core.Bool.{Bool, true, false}
-use mathlib.Core.Option.{Option, none, some}
+use mathlib.Core.Bool.{false}
+use mathlib.Core.Option.{none, some}
 use mathlib.Core.List.{List, [], _∷_}
 use Prim.Native.Nat.{ℕ}
 use lib.Dec.{lit≤, lit<}
-use lib.ListN.{length, take, getD, replicate}
+use lib.ListN.{length, getD, replicate}
 use Rattle.rules.specs.Base.{if_then_else_, Bytes}
 use Rattle.rules.specs.Data.{Answered, Kind, Leg}
-use Rattle.laws.specs.Shift.{Kept}
-use Rattle.laws.specs.Buffer.{Any, all-any}
-use Rattle.laws.specs.Cell.{num, byteOf, flagOf, textOf, optionNum, optionBytes, Code, Text, Optional}
+use Rattle.laws.specs.Buffer.{all-any}
+use Rattle.laws.specs.Cell.{num, flagOf, textOf, optionNum, optionBytes, Code, Text, Optional}
 use Rattle.laws.specs.Fields.{cuts}
 use Rattle.laws.specs.Store.{Store, entries}
 use Rattle.node_addr.specs.View.{viewMessage, FitMessage}

@@ -3,20 +3,19 @@ use mathlib.Core.Path.{_≡_, refl, sym, ap, _∙_}
 use mathlib.Core.Bool.{Bool, true, false, not}
 use mathlib.Core.Option.{Option, none, some}
 use mathlib.Core.List.{List, [], _∷_}
-use Prim.Native.Nat.{ℕ, suc, _+_, _≤_, _<_, min}
+use Prim.Native.Nat.{ℕ, _+_, _≤_, _<_, min}
 use native.Mathlib.Numerals.{add-one}
 use native.Mathlib.Omega.{arith}
-use borrow.Author.Needs.{needs}
 use mir.Syntax.{w64}
 use mir.Val.{Fits}
 use lib.Seq.{drop-cons}
-use lib.ListN.{length, drop, getD, drop-of-length-le}
+use lib.ListN.{length, drop, drop-of-length-le}
 use Rattle.rules.specs.Base.{if_then_else_, option, one, Bytes, keep}
 use Rattle.rules.specs.Data.{Leg}
 use Rattle.rules.specs.Legs.{answers, answering, wake, nextWake}
 use Rattle.laws.specs.Shift.{shown}
 use Rattle.laws.specs.Scan.{scan, Ahead, scan-hit, scan-skip, scan-end, length-shows}
-use Rattle.laws.specs.Chunk.{chunks, length-chunks}
+use Rattle.laws.specs.Chunk.{chunks}
 use Rattle.node_addr.specs.declared.Found.the-variants as foundv
 use Rattle.node_addr.specs.View.{Finds, finds-some, finds-no}
 use Rattle.legs.specs.View.{legOf, viewLegs, FitLegs, legCount, noLeg, legAt}

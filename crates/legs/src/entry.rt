@@ -12,7 +12,7 @@ use node_addr::place::put_digest;
 use node_addr::place::put_message;
 use node_addr::place::put_node;
 ghost use mathlib.Core.Path.{_≡_};
-ghost use Prim.Native.Nat.{ℕ, _+_, _≤_, _<_};
+ghost use Prim.Native.Nat.{_+_, _≤_, _<_};
 ghost use lib.ListN.{length};
 ghost use Rattle.laws.specs.Splice.{Wrote};
 ghost use Rattle.legs.specs.View.{FitLeg, FitLegs, viewLeg, legCount, legAt};

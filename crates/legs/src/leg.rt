@@ -3,7 +3,6 @@ use node_addr::Digest;
 use node_addr::LinkNo;
 use node_addr::Message;
 use node_addr::NodeAddr;
-use node_addr::blank_digest;
 use node_addr::blank_message;
 use params::Params;
 use params::time::deadline;
@@ -60,7 +59,7 @@ pub fn dial_leg(c: Params, clock: u64, n: LinkNo, peer: NodeAddr, msg1: Message,
     ensures { λ r. ⌜ viewLeg r ≡ dialLeg (viewParams c) clock (n .0) (peer .0) (viewMessage msg1) lease ⌝ }
 {
     let next = first_resend(c, clock);
-    let digest = blank_digest();
+    let digest = Digest([0u8; 32]);
     let msg2 = blank_message();
     Leg {
         link: n,

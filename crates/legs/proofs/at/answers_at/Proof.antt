@@ -1,3 +1,4 @@
+-- `legs::at::answers_at` meets its contract.
 use Rattle.legs.specs.At.{answers-here}
 use mathlib.Core.Path.{_∙_}
 use borrow.Author.Needs.{needs}

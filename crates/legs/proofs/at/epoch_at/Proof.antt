@@ -1,3 +1,4 @@
+-- `legs::at::epoch_at` meets its contract.
 use Rattle.legs.specs.At.{epoch-here}
 use mathlib.Core.Path.{_∙_}
 use borrow.Author.Needs.{needs}

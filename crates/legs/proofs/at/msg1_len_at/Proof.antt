@@ -1,3 +1,4 @@
+-- `legs::at::msg1_len_at` meets its contract.
 use Rattle.legs.specs.At.{msg1-here}
 use borrow.Author.Needs.{needs}
 use Rattle.legs.proofs.at.msg1_len_at.Statement.{statement}

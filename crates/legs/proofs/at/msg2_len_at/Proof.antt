@@ -1,3 +1,4 @@
+-- `legs::at::msg2_len_at` meets its contract.
 use Rattle.legs.specs.At.{msg2-here}
 use borrow.Author.Needs.{needs}
 use Rattle.legs.proofs.at.msg2_len_at.Statement.{statement}

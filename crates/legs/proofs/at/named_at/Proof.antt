@@ -1,3 +1,4 @@
+-- `legs::at::named_at` meets its contract.
 use Rattle.legs.specs.At.{named-here}
 use mathlib.Core.Path.{_∙_}
 use borrow.Author.Needs.{needs}

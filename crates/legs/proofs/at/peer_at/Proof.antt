@@ -1,3 +1,4 @@
+-- `legs::at::peer_at` meets its contract.
 use Rattle.legs.specs.At.{peer-here}
 use mathlib.Core.Path.{_∙_}
 use borrow.Author.Needs.{needs}

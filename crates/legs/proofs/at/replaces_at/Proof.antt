@@ -1,3 +1,4 @@
+-- `legs::at::replaces_at` meets its contract.
 use Rattle.legs.specs.At.{replaces-here}
 use mathlib.Core.Path.{_∙_}
 use borrow.Author.Needs.{needs}

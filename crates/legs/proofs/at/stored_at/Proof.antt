@@ -1,8 +1,8 @@
+-- `legs::at::stored_at` meets its contract.
 use Rattle.node_addr.specs.View.{viewMessage}
 use Rattle.legs.specs.View.{legAt}
 use Rattle.laws.specs.Buffer.{kept-length}
-use Rattle.legs.specs.At.{off, on, stored-same}
-use Rattle.legs.specs.At.{stored-dial, stored-unsent, stored-sent, stored-other}
+use Rattle.legs.specs.At.{off, on, stored-same, stored-dial, stored-unsent, stored-sent, stored-other}
 use mathlib.Core.Path.{_∙_, sym}
 use borrow.Author.Needs.{needs}
 use Rattle.legs.proofs.at.stored_at.Statement.{statement}

@@ -1,3 +1,4 @@
+-- `legs::at::timed_at` meets its contract.
 use Rattle.legs.specs.At.{timed-here}
 use mathlib.Core.Path.{_∙_}
 use borrow.Author.Needs.{needs}

@@ -1,3 +1,4 @@
+-- `legs::cell::get_flag` meets its contract.
 use Rattle.legs.specs.Entry.{flag-here}
 use borrow.Author.Needs.{needs}
 use Rattle.legs.proofs.cell.get_flag.Statement.{statement}

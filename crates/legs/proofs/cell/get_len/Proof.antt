@@ -1,3 +1,4 @@
+-- `legs::cell::get_len` meets its contract.
 use native.Mathlib.Omega.{arith}
 use Rattle.node_addr.specs.Alike.{byte-here}
 use borrow.Author.Needs.{needs}

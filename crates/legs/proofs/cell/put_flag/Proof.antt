@@ -1,3 +1,4 @@
+-- `legs::cell::put_flag` meets its contract.
 use Rattle.laws.specs.Splice.{wrote-same}
 use borrow.Author.Needs.{needs}
 use Rattle.legs.proofs.cell.put_flag.Statement.{statement}

@@ -1,3 +1,4 @@
+-- `legs::change::mark_sent` meets its contract.
 use Rattle.legs.specs.Change.{marked-sent}
 use borrow.Author.Needs.{needs}
 use Rattle.legs.proofs.change.mark_sent.Statement.{statement}

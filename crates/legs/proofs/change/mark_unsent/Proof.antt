@@ -1,3 +1,4 @@
+-- `legs::change::mark_unsent` meets its contract.
 use Rattle.legs.specs.Change.{marked-unsent}
 use borrow.Author.Needs.{needs}
 use Rattle.legs.proofs.change.mark_unsent.Statement.{statement}

@@ -1,3 +1,4 @@
+-- `legs::change::put_again` meets its contract.
 use Rattle.laws.specs.Splice.{wrote-then}
 use borrow.Author.Needs.{needs}
 use Rattle.legs.proofs.change.put_again.Statement.{statement}

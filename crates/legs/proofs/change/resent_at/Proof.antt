@@ -1,3 +1,4 @@
+-- `legs::change::resent_at` meets its contract.
 use Rattle.legs.specs.Start.{resent-is}
 use Rattle.legs.specs.Change.{set-again}
 use Rattle.legs.specs.At.{sent-here}

@@ -1,3 +1,4 @@
+-- `legs::entry::get_leg` meets its contract.
 use Rattle.legs.specs.Entry.{leg-loaded, msg1-cell, msg2-cell}
 use native.Mathlib.Omega.{arith}
 use borrow.Author.Needs.{needs}

@@ -1,3 +1,4 @@
+-- `legs::entry::put_ends` meets its contract.
 use Rattle.laws.specs.Splice.{wrote-then}
 use borrow.Author.Needs.{needs}
 use Rattle.legs.proofs.entry.put_ends.Statement.{statement}

@@ -1,3 +1,4 @@
+-- `legs::entry::put_leg` meets its contract.
 use Rattle.legs.specs.Entry.{put-leg-is}
 use Rattle.laws.specs.Splice.{wrote-then}
 use borrow.Author.Needs.{needs}

@@ -1,3 +1,4 @@
+-- `legs::entry::put_times` meets its contract.
 use native.Mathlib.Omega.{arith}
 use Rattle.laws.specs.Splice.{wrote-then}
 use borrow.Author.Needs.{needs}

@@ -1,3 +1,4 @@
+-- `legs::leg::answer_leg` meets its contract.
 use native.Mathlib.Omega.{arith}
 use Prim.Native.Nat.{ℕ}
 use Rattle.rules.specs.Legs.{answerLeg}

@@ -1,3 +1,4 @@
+-- `legs::leg::dial_leg` meets its contract.
 use Rattle.node_addr.specs.View.{fit-blank-message}
 use Rattle.rules.specs.Legs.{dialLeg}
 use mathlib.Core.Path.{refl}
@@ -10,21 +11,20 @@ unfolding dialLeg
 returns c = (
   record {
     peer = search needs;
-    digest = rw (c .before .before .blank-digest .ensures);
-    msg1 = c .before .before .before .before .pre;
+    digest = refl;
+    msg1 = c .before .before .before .pre;
     msg2 = rw (c .before .blank-message .ensures) fit-blank-message;
-    untimed = c .before .before .before .first-resend .ensures .blank;
+    untimed = c .before .before .first-resend .ensures .blank;
     unnamed = λ e. cc;
-    dial = λ e. record { marked = refl; replaces = refl; epoch = refl; digest = rw (c .before .before .blank-digest .ensures); len2 = rw (c .before .blank-message .ensures); msg2 = rw (c .before .blank-message .ensures) };
+    dial = λ e. record { marked = refl; replaces = refl; epoch = refl; digest = refl; len2 = rw (c .before .blank-message .ensures); msg2 = rw (c .before .blank-message .ensures) };
   },
-  rw (c .before .before .before .first-resend .ensures .is, c .deadline .ensures),
+  rw (c .before .before .first-resend .ensures .is, c .deadline .ensures),
 )
 
 pub dial-leg-spec : {M : Type 1} → statement M
 dial-leg-spec =
     tie.close
     (tie.spec
-    (λ c κs. search needs)
     (λ c κs. search needs)
     (λ c κs. search needs)
     (λ c κs. search needs)

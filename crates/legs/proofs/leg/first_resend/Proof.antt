@@ -1,3 +1,4 @@
+-- `legs::leg::first_resend` meets its contract.
 use Rattle.legs.specs.Start.{due-there, due-none}
 use Rattle.rules.specs.Time.{deadline}
 use Rattle.rules.specs.Std.{fromNanos}

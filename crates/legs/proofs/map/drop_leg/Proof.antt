@@ -1,3 +1,4 @@
+-- `legs::map::drop_leg` meets its contract.
 use Rattle.legs.specs.View.{legOf}
 use Rattle.node_addr.specs.View.{finds-at, finds-none}
 use Rattle.rules.specs.Legs.{onLink}

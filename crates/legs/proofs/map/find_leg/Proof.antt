@@ -1,3 +1,4 @@
+-- `legs::map::find_leg` meets its contract.
 use Rattle.legs.specs.Walk.{Scanning, scanning-start, scanning-hit, scanning-skip, scanning-end}
 use Rattle.legs.specs.View.{viewLegs}
 use Rattle.laws.specs.Scan.{scan}

@@ -1,3 +1,4 @@
+-- `legs::map::leg_count` meets its contract.
 use Rattle.legs.specs.Walk.{count-is}
 use mathlib.Core.Path.{sym, _∙_}
 use borrow.Author.Needs.{needs}

@@ -1,3 +1,4 @@
+-- `legs::map::push_leg` meets its contract.
 use Rattle.legs.specs.Entry.{fit-bytes, leg-bytes}
 use Rattle.legs.specs.View.{legOf}
 use Rattle.laws.specs.Store.{pushed-is}

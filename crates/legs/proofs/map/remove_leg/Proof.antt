@@ -1,3 +1,4 @@
+-- `legs::map::remove_leg` meets its contract.
 use Rattle.legs.specs.View.{legOf, fit-zeros}
 use Rattle.laws.specs.Store.{removed-is}
 use borrow.Author.Needs.{needs}

@@ -1,3 +1,4 @@
+-- `legs::poll::answering` meets its contract.
 use Rattle.legs.specs.Walk.{Answering, answering-start, answering-turn, answering-fits, answering-end}
 use Prim.Native.Nat.{_-_}
 use borrow.Author.Needs.{needs}

@@ -1,3 +1,4 @@
+-- `legs::poll::find_resend` meets its contract.
 use Rattle.legs.specs.Walk.{Scanning, scanning-start, scanning-hit, scanning-skip, scanning-end}
 use Rattle.legs.specs.At.{resendDue}
 use Rattle.legs.specs.View.{viewLegs}

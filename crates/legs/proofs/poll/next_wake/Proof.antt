@@ -1,3 +1,4 @@
+-- `legs::poll::next_wake` meets its contract.
 use Rattle.legs.specs.Walk.{Waking, waking-start, waking-turn, waking-end}
 use Prim.Native.Nat.{_-_}
 use borrow.Author.Needs.{needs}

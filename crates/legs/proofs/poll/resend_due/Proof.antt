@@ -1,3 +1,4 @@
+-- `legs::poll::resend_due` meets its contract.
 use Rattle.legs.specs.View.{legAt}
 use Rattle.legs.specs.At.{off, on, not-due, due-is}
 use borrow.Author.Needs.{needs}

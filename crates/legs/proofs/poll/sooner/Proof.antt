@@ -1,3 +1,4 @@
+-- `legs::poll::sooner` meets its contract.
 use Rattle.legs.specs.Walk.{sooner-none, sooner-old, sooner-new}
 use borrow.Author.Needs.{needs}
 use Rattle.legs.proofs.poll.sooner.Statement.{statement}

@@ -1,3 +1,4 @@
+-- `legs::poll::wake_at` meets its contract.
 use Rattle.legs.specs.At.{off, on, wake-untimed, wake-resend, wake-deadline}
 use borrow.Author.Needs.{needs}
 use Rattle.legs.proofs.poll.wake_at.Statement.{statement}

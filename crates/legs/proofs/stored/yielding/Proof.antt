@@ -1,3 +1,4 @@
+-- `legs::stored::yielding` meets its contract.
 use Rattle.legs.specs.Stored.{found-within, yields-none, yields-not, yields-at}
 use Rattle.legs.specs.At.{off, on}
 use Rattle.node_addr.specs.View.{finds-at, finds-none}
@@ -5,19 +6,6 @@ use mathlib.Core.List.{[]}
 use borrow.Author.Needs.{needs}
 use Rattle.legs.proofs.stored.yielding.Statement.{statement}
 use Rattle.legs.proofs.stored.yielding.Tie as tie
-use Rattle.legs.proofs.stored.yielding.Reads as reads
-use Rattle.legs.proofs.stored.yielding.Lts as lts
-use Rattle.legs.proofs.at.stored_at.Reads as stored-at-reads
-use Rattle.legs.proofs.map.find_leg.Reads as find-leg-reads
-
-find-leg-requires : tie.Need-find-leg-requires
-find-leg-requires c κs = search needs
-
-enum-known-i : tie.Need-enum-known-i
-enum-known-i c = search needs
-
-enum-told : tie.Need-enum-told
-enum-told c = search needs
 
 returns : tie.Need-returns
 returns c = yields-none (c .before .before .before .before .pre .0) _ _ (finds-none (c .before .before .find-leg .ensures) (c .enum-told .given .1))
@@ -35,9 +23,9 @@ pub yielding-spec : {M : Type 1} → statement M
 yielding-spec =
     tie.close
     (tie.spec
-    find-leg-requires
-    enum-known-i
-    enum-told
+    (λ c κs. search needs)
+    (λ c. search needs)
+    (λ c. search needs)
     returns
     stored-at-requires
     returns-2
