@@ -7,19 +7,19 @@ use Prim.Native.Nat.{ℕ, zero, suc, _+_, _-_, _*_, _≤_, _<_}
 use native.Mathlib.Nat.{add-zero}
 use native.Mathlib.Omega.{arith}
 use borrow.Author.Needs.{needs}
-use borrow.Author.Tests.{eq-eqb, ne-eqb, leb-false}
+use borrow.Author.Tests.{leb-false, le-leb, lt-leb}
 use lib.Dec.{eqb, leb, lit≤, lit<}
 use lib.Seq.{take-at, drop-at, take-all, set-set, getD-set-same, length-take-le}
-use lib.ListN.{length, take, drop, getD, set, replicate, length-append, length-replicate}
+use lib.ListN.{length, take, drop, getD, set, replicate, length-set}
 use mir.Syntax.{w32, w64}
 use mir.Val.{Fits}
-use Rattle.rules.specs.Base.{if_then_else_, Bytes, any, keep, alter, one}
+use Rattle.rules.specs.Base.{if_then_else_, Bytes, any, keep, one}
 use Rattle.rules.specs.Data.{Pair, samePair, Dir, Inbound, Outbound, Holder, ALeg, APeer, Proven, Live, Acked, Probing, PathRec, LinkRec}
 use Rattle.rules.specs.Field.{digits, more, stateCode}
-use Rattle.rules.specs.Links.{numbered, pathAt, setPath, opened, heldBy, withPath, withoutPath}
-use Rattle.laws.specs.Shift.{Kept, shown, fit-at}
+use Rattle.rules.specs.Links.{numbered, pathAt, setPath, opened, heldBy, hold, withPath, path, withoutPath, released, retired}
+use Rattle.laws.specs.Shift.{erase}
 use Rattle.laws.specs.Scan.{scan}
-use Rattle.laws.specs.Place.{any-at, any-nowhere, alter-at}
+use Rattle.laws.specs.Place.{any-at, any-nowhere, alter-at, alter-nowhere, find-at, find-nowhere, without-at, without-nowhere}
 use Rattle.laws.specs.Splice.{splice, Wrote, length-digits}
 use Rattle.laws.specs.Round.{more-digits}
 use Rattle.laws.specs.Part.{part-before, part-same, put-is}
@@ -30,9 +30,10 @@ use Rattle.laws.specs.Store.{Store, entries, changed-is, pushed-is, store-zeros
 use Rattle.node_addr.specs.View.{viewPair, FitPair}
 use Rattle.node_addr.specs.Place.{pairOf, PairCell, pairCell, pair-cell-length, pair-cell-fit, pair-cell-shows, pair-zeros}
 use Rattle.node_addr.specs.declared.Pair as pair
-use Rattle.links.specs.View.{stateOf, pathOf, FitPath, viewPaths, FitPaths, pathCount, noPath, newPath, inState, full, linkWs, dirOf, dirCode, holderOf, linkFrom, linkOf, FitHolder, FitFields, FitLink, viewLinks, FitLinks, linkCount, noLink, withPaths, withReleased, markedAt, cutAt}
-use Rattle.links.specs.Here.{paths-here}
+use Rattle.links.specs.View.{stateOf, pathOf, FitPath, viewPaths, FitPaths, pathCount, noPath, newPath, inState, full, crowding, linkWs, dirOf, dirCode, holderOf, linkFrom, linkOf, FitHolder, FitFields, FitLink, viewLinks, FitLinks, linkCount, noLink, withPaths, withReleased, markedAt, cutAt}
+use Rattle.links.specs.Here.{span, span-is, paths-show}
 use Rattle.links.specs.Zeros.{paths-zeros}
+use Rattle.links.specs.Asking.{and-false}
 
 -- ---- codes
 state-shows : (v : Proven) → stateOf (stateCode v) ≡ v
@@ -102,6 +103,75 @@ room-for p s f e q =
     let l : length (viewPaths s) < 4 = leb-false 4 (length (viewPaths s)) (rw (any-nowhere (pathAt p) (viewPaths s) q) at e) in
     omega (arith, entries-count pathOf f)
 
+-- ---- whether a path at a pair would be a fifth
+module _ (p : Pair) {s : Bytes} (f : FitPaths s) where
+  pub full-few : pathCount s < 4 → false ≡ full p (viewPaths s)
+  full-few h =
+      let l : length (viewPaths s) ≡ pathCount s = entries-count pathOf f in
+      sym (rw (lt-leb 4 (length (viewPaths s)) (omega arith)) (and-false (not (any (pathAt p) (viewPaths s)))))
+
+  pub full-old : {j : ℕ} → scan (pathAt p) 0 (viewPaths s) ≡ some j → false ≡ full p (viewPaths s)
+  full-old {j} e = sym (rw (any-at (pathAt p) (viewPaths s) j e))
+
+  pub full-new : 4 ≤ pathCount s → scan (pathAt p) 0 (viewPaths s) ≡ none → true ≡ full p (viewPaths s)
+  full-new h e =
+      let l : length (viewPaths s) ≡ pathCount s = entries-count pathOf f in
+      sym (rw (any-nowhere (pathAt p) (viewPaths s) e) (le-leb 4 (length (viewPaths s)) (omega arith)))
+
+module _ (n : ℕ) (p : Pair) (xs : List LinkRec) where
+  pub crowding-at : {i : ℕ} {b : Bool} → scan (numbered n) 0 xs ≡ some i → b ≡ full p (getD xs i noLink .paths) → b ≡ crowding n p xs
+  unfolding crowding
+  crowding-at {i} e q = q ∙ sym (rw (find-at (numbered n) xs i e noLink))
+
+  pub crowding-none : scan (numbered n) 0 xs ≡ none → false ≡ crowding n p xs
+  unfolding crowding
+  crowding-none e = sym (rw (find-nowhere (numbered n) xs e))
+
+  pub uncrowded : {i : ℕ} → scan (numbered n) 0 xs ≡ some i → crowding n p xs ≡ false → full p (getD xs i noLink .paths) ≡ false
+  unfolding crowding
+  uncrowded {i} e q = rw (find-at (numbered n) xs i e noLink) at q
+
+-- ---- a link found, or not
+module _ (n : ℕ) (xs : List LinkRec) {i : ℕ} (e : scan (numbered n) 0 xs ≡ some i) where
+  pub hold-done : (h : Holder) {ys : List LinkRec} → ys ≡ set xs i (heldBy h (getD xs i noLink)) → ys ≡ hold n h xs
+  unfolding hold
+  hold-done h q = q ∙ sym (alter-at (numbered n) xs i e (heldBy h) noLink)
+
+  pub path-done : (p : Pair) (v : Proven) {ys : List LinkRec} → ys ≡ set xs i (withPath p v (getD xs i noLink)) → ys ≡ path n p v xs
+  unfolding path
+  path-done p v q = q ∙ sym (alter-at (numbered n) xs i e (withPath p v) noLink)
+
+  pub release-done : (p : Pair) {ys : List LinkRec} → ys ≡ set xs i (withoutPath p (getD xs i noLink)) → ys ≡ released n p xs
+  unfolding released
+  release-done p q = q ∙ sym (alter-at (numbered n) xs i e (withoutPath p) noLink)
+
+  pub drop-done : {ys : List LinkRec} → ys ≡ erase i xs → ys ≡ retired n xs
+  drop-done q = q ∙ sym (without-at (numbered n) xs i e)
+
+module _ (n : ℕ) (xs : List LinkRec) (e : scan (numbered n) 0 xs ≡ none) where
+  pub hold-none : (h : Holder) → xs ≡ hold n h xs
+  unfolding hold
+  hold-none h = sym (alter-nowhere (numbered n) xs e (heldBy h))
+
+  pub path-none : (p : Pair) (v : Proven) → xs ≡ path n p v xs
+  unfolding path
+  path-none p v = sym (alter-nowhere (numbered n) xs e (withPath p v))
+
+  pub release-none : (p : Pair) → xs ≡ released n p xs
+  unfolding released
+  release-none p = sym (alter-nowhere (numbered n) xs e (withoutPath p))
+
+  pub drop-none : xs ≡ retired n xs
+  drop-none = sym (without-nowhere (numbered n) xs e)
+
+-- a change in place leaves the place
+pub place-left : {s l : Bytes} {i : ℕ} (x : LinkRec) → FitLinks s → FitLinks l → viewLinks l ≡ set (viewLinks s) i x → i < linkCount s → i < linkCount l
+place-left {s} {l} {i} x f g e h =
+    let a : length (viewLinks s) ≡ linkCount s = entries-count linkOf f in
+    let b : length (viewLinks l) ≡ linkCount l = entries-count linkOf g in
+    let c : length (viewLinks l) ≡ length (viewLinks s) = ap length e ∙ length-set (viewLinks s) i x in
+    omega arith
+
 -- ---- fields of a link
 module _ (c bs : Bytes) (z : length c ≡ 297) where
   holder-cuts : length bs ≡ 17 → cuts 0 0 linkWs (splice c 62 bs) ≡ set (cuts 0 0 linkWs c) 3 bs
@@ -160,14 +230,14 @@ module _ (bs c : Bytes) (k : FitPaths bs) (z : length c ≡ 297) where
   paths-put = ap linkFrom (paths-cuts c bs z (k .size))
 
 -- they were lent and put back
-pub paths-are : {s ys : Bytes} {i k : ℕ} (g : List PathRec → List PathRec) → k ≡ 217 → FitLinks s → i < linkCount s → FitPaths ys → viewPaths ys ≡ g (viewPaths (take k (drop (i * 297 + 80) s)))
-    → FitLinks (take (i * 297 + 80) s ++ (ys ++ drop k (drop (i * 297 + 80) s)))
-    × (viewLinks (take (i * 297 + 80) s ++ (ys ++ drop k (drop (i * 297 + 80) s))) ≡ set (viewLinks s) i (withPaths (g (getD (viewLinks s) i noLink .paths)) (getD (viewLinks s) i noLink)))
-paths-are {s} {ys} {i} {k} g e f h y q =
-    let w : Wrote s (i * 297 + 80) 217 ys (take (i * 297 + 80) s ++ (ys ++ drop k (drop (i * 297 + 80) s))) (i * 297 + 80 + 217) =
-    record { end = refl; size = y .size; room = omega arith; is = put-is (i * 297 + 80) k s ys (y .size ∙ sym e) } in
+pub paths-are : {s ys : Bytes} {i : ℕ} (g : List PathRec → List PathRec) → FitLinks s → i < linkCount s → FitPaths ys → viewPaths ys ≡ g (viewPaths (take (span i) (drop (i * 297 + 80) s)))
+    → FitLinks (take (i * 297 + 80) s ++ (ys ++ drop (span i) (drop (i * 297 + 80) s)))
+    × (viewLinks (take (i * 297 + 80) s ++ (ys ++ drop (span i) (drop (i * 297 + 80) s))) ≡ set (viewLinks s) i (withPaths (g (getD (viewLinks s) i noLink .paths)) (getD (viewLinks s) i noLink)))
+paths-are {s} {ys} {i} g f h y q =
+    let w : Wrote s (i * 297 + 80) 217 ys (take (i * 297 + 80) s ++ (ys ++ drop (span i) (drop (i * 297 + 80) s))) (i * 297 + 80 + 217) =
+    record { end = refl; size = y .size; room = omega arith; is = put-is (i * 297 + 80) (span i) s ys (y .size ∙ sym (span-is i)) } in
     let r = changed-is linkOf (withPaths (viewPaths ys)) i 80 noLink w f h (lit≤ tt) (λ c z. paths-keeps ys c y z) (λ c z. paths-put ys c y z) in
-    let v : viewPaths ys ≡ g (getD (viewLinks s) i noLink .paths) = q ∙ ap g ((ap (λ (n : ℕ). viewPaths (take n (drop (i * 297 + 80) s))) e) ∙ paths-here f h) in
+    let v : viewPaths ys ≡ g (getD (viewLinks s) i noLink .paths) = q ∙ ap g (paths-show f h) in
     (r .0, r .1 ∙ ap (λ (x : List PathRec). set (viewLinks s) i (withPaths x (getD (viewLinks s) i noLink))) v)
 
 -- both halves of a release

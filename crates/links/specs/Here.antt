@@ -54,6 +54,9 @@ module _ {s : Bytes} {i : ℕ} (f : FitLinks s) (h : i < linkCount s) where
   pub paths-fit : FitPaths (take 217 (drop (i * 297 + 80) s))
   paths-fit = fit-here .paths
 
+  pub link-shown : linkOf (getD (chunks 297 32 s) i []) ≡ getD (viewLinks s) i noLink
+  link-shown = shown linkOf i [] noLink (f .kept) h
+
   -- the number, of the chunk
   pub key-here : num (take 8 (drop (i * 297) s)) ≡ linkOf (getD (chunks 297 32 s) i []) .no
   key-here = no-here ∙ sym (ap (λ (r : LinkRec). r .no) (shown linkOf i [] noLink (f .kept) h))
@@ -85,11 +88,11 @@ module _ {s : Bytes} {j : ℕ} (f : FitPaths s) (h : j < pathCount s) where
   state-low = subst (λ (b : Bytes). byteOf b < 3) path-state (path-fit .state .low)
 
 -- ---- as the code reads it
-byte-here : (s : Bytes) (at : ℕ) → getD s at 0 ≡ getD (take 1 (drop at s)) 0 0
+pub byte-here : (s : Bytes) (at : ℕ) → getD s at 0 ≡ getD (take 1 (drop at s)) 0 0
 byte-here s at = sym (getD-take 1 (drop at s) 0 0 (lit< tt) ∙ getD-drop at s 0 0 ∙ ap (λ (i : ℕ). getD s i 0) (add-zero at))
 
 -- a byte in a part
-byte-in : (s : Bytes) (a k n : ℕ) → n < k → getD (take k (drop a s)) n 0 ≡ getD s (a + n) 0
+pub byte-in : (s : Bytes) (a k n : ℕ) → n < k → getD (take k (drop a s)) n 0 ≡ getD s (a + n) 0
 byte-in s a k n h = getD-take k (drop a s) n 0 h ∙ getD-drop a s n 0
 
 outward-of : (b : ℕ) → outward (dirOf b) ≡ eqb b 1
@@ -111,6 +114,13 @@ shows-none : {A B : Type 0} (f : A → B) (n : ℕ) (ps : List A) → n ≤ leng
 shows-none f zero ps h = refl
 shows-none f (suc n) [] h = absurd (omega arith)
 shows-none f (suc n) (x ∷ ps) h = sym (ne-eqb (suc n) 0 (λ e. omega arith))
+
+-- the length of the paths that the code lends
+abbrev pub span : ℕ → ℕ
+span i = i * 297 + 80 + 217 - (i * 297 + 80)
+
+pub span-is : (i : ℕ) → span i ≡ 217
+span-is i = omega arith
 
 module _ {s : Bytes} {i : ℕ} (f : FitLinks s) (h : i < linkCount s) where
   pub no-is : {b : ℕ} → b ≡ num (take 8 (drop (i * 297) s)) → b ≡ getD (viewLinks s) i noLink .no
@@ -145,11 +155,11 @@ module _ {s : Bytes} {i : ℕ} (f : FitLinks s) (h : i < linkCount s) where
       (sym (shows-none pathOf (pathCount (take 217 (drop (i * 297 + 80) s))) (chunks 54 4 (take 217 (drop (i * 297 + 80) s))) (omega (arith, p .kept .small, p .kept .size))) ∙ ap empty (paths-here f h))
 
   -- the paths, lent
-  pub paths-lent : {k : ℕ} → k ≡ 217 → FitPaths (take k (drop (i * 297 + 80) s))
-  paths-lent e = rw e (paths-fit f h)
+  pub paths-lent : FitPaths (take (span i) (drop (i * 297 + 80) s))
+  paths-lent = rw (span-is i) (paths-fit f h)
 
-  pub paths-show : {k : ℕ} → k ≡ 217 → viewPaths (take k (drop (i * 297 + 80) s)) ≡ getD (viewLinks s) i noLink .paths
-  paths-show e = rw e (paths-here f h)
+  pub paths-show : viewPaths (take (span i) (drop (i * 297 + 80) s)) ≡ getD (viewLinks s) i noLink .paths
+  paths-show = ap (λ (k : ℕ). viewPaths (take k (drop (i * 297 + 80) s))) (span-is i) ∙ paths-here f h
 
 -- whether a link's setup is in use
 module _ {s : Bytes} {i : ℕ} (f : FitLinks s) (h : i < linkCount s) {b : ℕ} (e : b ≡ getD s (i * 297 + 296) 0) where

@@ -4,3 +4,4 @@ pub mod Here
 pub mod Zeros
 pub mod Change
 pub mod Close
+pub mod Load

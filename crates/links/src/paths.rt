@@ -209,7 +209,10 @@ pub fn blank_path() -> Path
     ensures { λ r. ⌜ r ≡ blankPath ⌝ }
 {
     let p = blank_pair();
-    Path { pair: p, state: Proven::Live }
+    Path {
+        pair: p,
+        state: Proven::Live,
+    }
 }
 
 // The paths by value; blank past their count.

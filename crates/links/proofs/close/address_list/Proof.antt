@@ -1,61 +1,46 @@
+-- `links::close::address_list` meets its contract.
+use Prim.Native.Nat.{_-_}
+use Rattle.laws.specs.Shift.{fit-at}
+use Rattle.links.specs.Close.{Listing, listing-end, listing-start, listing-turn}
+use Rattle.links.specs.View.{viewLink, viewPath}
+use Rattle.node_addr.specs.View.{viewPair}
+use Rattle.rules.specs.Links.{addresses}
 use borrow.Author.Needs.{needs}
+use mathlib.Core.Path.{_∙_}
+use native.Mathlib.Omega.{arith}
+use Rattle.links.specs.declared.record.Path as path
 use Rattle.links.proofs.close.address_list.Statement.{statement}
 use Rattle.links.proofs.close.address_list.Tie as tie
-use Rattle.links.proofs.close.address_list.Reads as reads
-use Rattle.links.proofs.close.address_list.Lts as lts
-use Rattle.links.proofs.close.list_once.Reads as list-once-reads
-use Rattle.links.proofs.close.no_closes.Reads as no-closes-reads
-use Rattle.links.proofs.close.push.Reads as push-reads
 
 abbrev Inv-loop : tie.InvT-loop
-Inv-loop r n out₀ j₀ out j = ?
+Inv-loop r n out₀ j₀ out j = Listing (addresses (viewLink r)) (λ (w : path.Path). viewPair (w .pair)) n (r .paths) j out
 
 abbrev μ-loop : tie.MeasureT-loop
-μ-loop r n out₀ j₀ out j = ?
-
-no-closes-requires : tie.Need-no-closes-requires Inv-loop μ-loop
-no-closes-requires c κs = search needs
-
-push-requires : tie.Need-push-requires Inv-loop μ-loop
-push-requires c κs = search needs
+μ-loop r n out₀ j₀ out j = n - j
 
 loop-holds : tie.Need-loop-holds Inv-loop μ-loop
-loop-holds c = search needs
-
-mul-w : tie.Need-mul-w Inv-loop μ-loop
-mul-w c = search needs
-
-element-copy-out-w : tie.Need-element-copy-out-w Inv-loop μ-loop
-element-copy-out-w c = search needs
+loop-holds c = listing-start _ _ (c .before .before .before .pre) (c .push .ensures .0) (omega (arith, c .push .ensures .1 .0, c .before .no-closes .ensures .1 .0)) (c .push .ensures .1 .1 ∙ rw (c .before .no-closes .ensures .1 .1))
 
 list-once-requires : tie.Need-list-once-requires Inv-loop μ-loop
-list-once-requires c κs = search needs
-
-add-j : tie.Need-add-j Inv-loop μ-loop
-add-j c = search needs
-
-loop-less : tie.Need-loop-less Inv-loop μ-loop
-loop-less c = search needs
+list-once-requires c κs = (c .before .before .before .loop .inv .fit, (omega (arith, c .before .before .before .loop .inv .few, c .before .before .before .before .before .before .before .pre .paths .small), fit-at viewPath _ _ (c .before .before .before .before .before .before .before .pre .paths) (search needs)))
 
 loop-again : tie.Need-loop-again Inv-loop μ-loop
-loop-again c = search needs
+loop-again c = listing-turn (c .before .before .before .before .loop .inv) _ (search needs) (c .list-once .ensures .0) (c .list-once .ensures .1 .0) (c .list-once .ensures .1 .1)
 
 returns : tie.Need-returns Inv-loop μ-loop
-returns c = search needs
+returns c = listing-end (c .before .loop .inv) (search needs)
 
 pub address-list-spec : {M : Type 1} → statement M
-address-list-spec =
-    tie.close
-    (tie.spec
+address-list-spec = tie.close (tie.spec
     Inv-loop
     μ-loop
-    no-closes-requires
-    push-requires
+    (λ c κs. search needs)
+    (λ c κs. search needs)
     loop-holds
-    mul-w
-    element-copy-out-w
+    (λ c. search needs)
+    (λ c. search needs)
     list-once-requires
-    add-j
-    loop-less
+    (λ c. search needs)
+    (λ c. search needs)
     loop-again
     returns)

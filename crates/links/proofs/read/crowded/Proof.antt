@@ -1,30 +1,26 @@
+-- `links::read::crowded` meets its contract.
+use Rattle.laws.specs.Store.{entry-within}
+use Rattle.links.specs.Change.{crowding-at, crowding-none}
+use Rattle.links.specs.View.{linkOf}
+use Rattle.node_addr.specs.View.{finds-at, finds-none}
 use borrow.Author.Needs.{needs}
 use Rattle.links.proofs.read.crowded.Statement.{statement}
 use Rattle.links.proofs.read.crowded.Tie as tie
-use Rattle.links.proofs.read.crowded.Reads as reads
-use Rattle.links.proofs.read.crowded.Lts as lts
-use Rattle.links.proofs.read.crowded_at.Reads as crowded-at-reads
-use Rattle.links.proofs.read.find_link.Reads as find-link-reads
-
-find-link-requires : tie.Need-find-link-requires
-find-link-requires c κs = search needs
-
-enum-known-i : tie.Need-enum-known-i
-enum-known-i c = search needs
 
 crowded-at-requires : tie.Need-crowded-at-requires
-crowded-at-requires c κs = search needs
-
-enum-told : tie.Need-enum-told
-enum-told c = search needs
+crowded-at-requires c κs = (c .before .before .before .before .before .pre .0, (entry-within linkOf (c .before .before .before .before .before .pre .0) _ _ (finds-at (c .before .before .before .find-link .ensures) (c .before .i .given .1)), c .before .before .before .before .before .pre .1))
 
 returns : tie.Need-returns
-returns c = search needs
+returns c = crowding-at _ _ _ (finds-at (c .before .before .before .before .find-link .ensures) (c .before .before .i .given .1)) (c .crowded-at .ensures)
 
 returns-2 : tie.Need-returns-2
-returns-2 c = search needs
+returns-2 c = crowding-none _ _ _ (finds-none (c .before .before .find-link .ensures) (c .enum-told .given .1))
 
 pub crowded-spec : {M : Type 1} → statement M
-crowded-spec =
-    tie.close
-    (tie.spec find-link-requires enum-known-i crowded-at-requires enum-told returns returns-2)
+crowded-spec = tie.close (tie.spec
+    (λ c κs. search needs)
+    (λ c. search needs)
+    crowded-at-requires
+    (λ c. search needs)
+    returns
+    returns-2)

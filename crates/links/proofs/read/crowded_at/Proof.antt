@@ -1,43 +1,25 @@
+-- `links::read::crowded_at` meets its contract.
+use Rattle.links.specs.Here.{paths-lent, paths-show}
+use Rattle.links.specs.View.{full}
+use Rattle.node_addr.specs.View.{viewPair}
 use borrow.Author.Needs.{needs}
+use mathlib.Core.Path.{_∙_, ap}
 use Rattle.links.proofs.read.crowded_at.Statement.{statement}
 use Rattle.links.proofs.read.crowded_at.Tie as tie
-use Rattle.links.proofs.read.crowded_at.Reads as reads
-use Rattle.links.proofs.read.crowded_at.Lts as lts
-use Rattle.links.proofs.paths.full_for.Reads as full-for-reads
-
-mul-from : tie.Need-mul-from
-mul-from c = search needs
-
-add-from : tie.Need-add-from
-add-from c = search needs
-
-add-end : tie.Need-add-end
-add-end c = search needs
-
-sub-full-for : tie.Need-sub-full-for
-sub-full-for c = search needs
-
-part-full-for-start : tie.Need-part-full-for-start
-part-full-for-start c = search needs
-
-part-full-for-end : tie.Need-part-full-for-end
-part-full-for-end c = search needs
 
 full-for-requires : tie.Need-full-for-requires
-full-for-requires c κs = search needs
+full-for-requires c κs = (paths-lent (c .before .before .pre .0) (c .before .before .pre .1 .0), c .before .before .pre .1 .1)
 
 returns : tie.Need-returns
-returns c = search needs
+returns c = c .full-for .ensures ∙ ap (full (viewPair (c .before .before .before .args .p))) (paths-show (c .before .before .before .pre .0) (c .before .before .before .pre .1 .0))
 
 pub crowded-at-spec : {M : Type 1} → statement M
-crowded-at-spec =
-    tie.close
-    (tie.spec
-    mul-from
-    add-from
-    add-end
-    sub-full-for
-    part-full-for-start
-    part-full-for-end
+crowded-at-spec = tie.close (tie.spec
+    (λ c. search needs)
+    (λ c. search needs)
+    (λ c. search needs)
+    (λ c. search needs)
+    (λ c. search needs)
+    (λ c. search needs)
     full-for-requires
     returns)

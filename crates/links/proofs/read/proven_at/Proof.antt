@@ -1,43 +1,26 @@
+-- `links::read::proven_at` meets its contract.
+use Rattle.links.specs.Here.{paths-lent, paths-show}
+use Rattle.node_addr.specs.View.{viewPair}
+use Rattle.rules.specs.Base.{any}
+use Rattle.rules.specs.Links.{provenAt}
 use borrow.Author.Needs.{needs}
+use mathlib.Core.Path.{_∙_, ap}
 use Rattle.links.proofs.read.proven_at.Statement.{statement}
 use Rattle.links.proofs.read.proven_at.Tie as tie
-use Rattle.links.proofs.read.proven_at.Reads as reads
-use Rattle.links.proofs.read.proven_at.Lts as lts
-use Rattle.links.proofs.paths.proves.Reads as proves-reads
-
-mul-from : tie.Need-mul-from
-mul-from c = search needs
-
-add-from : tie.Need-add-from
-add-from c = search needs
-
-add-end : tie.Need-add-end
-add-end c = search needs
-
-sub-proves : tie.Need-sub-proves
-sub-proves c = search needs
-
-part-proves-start : tie.Need-part-proves-start
-part-proves-start c = search needs
-
-part-proves-end : tie.Need-part-proves-end
-part-proves-end c = search needs
 
 proves-requires : tie.Need-proves-requires
-proves-requires c κs = search needs
+proves-requires c κs = (paths-lent (c .before .before .pre .0) (c .before .before .pre .1 .0), c .before .before .pre .1 .1)
 
 returns : tie.Need-returns
-returns c = search needs
+returns c = c .proves .ensures ∙ ap (any (provenAt (viewPair (c .before .before .before .args .p)))) (paths-show (c .before .before .before .pre .0) (c .before .before .before .pre .1 .0))
 
 pub proven-at-spec : {M : Type 1} → statement M
-proven-at-spec =
-    tie.close
-    (tie.spec
-    mul-from
-    add-from
-    add-end
-    sub-proves
-    part-proves-start
-    part-proves-end
+proven-at-spec = tie.close (tie.spec
+    (λ c. search needs)
+    (λ c. search needs)
+    (λ c. search needs)
+    (λ c. search needs)
+    (λ c. search needs)
+    (λ c. search needs)
     proves-requires
     returns)

@@ -1,47 +1,28 @@
+-- `links::write::path_at` meets its contract.
+use Rattle.links.specs.Change.{paths-are}
+use Rattle.links.specs.Here.{paths-lent, paths-show}
+use Rattle.links.specs.View.{full, viewProven}
+use Rattle.node_addr.specs.View.{viewPair}
+use Rattle.rules.specs.Links.{setPath}
 use borrow.Author.Needs.{needs}
+use mathlib.Core.Path.{_∙_, ap}
 use Rattle.links.proofs.write.path_at.Statement.{statement}
 use Rattle.links.proofs.write.path_at.Tie as tie
-use Rattle.links.proofs.write.path_at.Reads as reads
-use Rattle.links.proofs.write.path_at.Lts as lts
-use Rattle.links.proofs.paths.put_path.Reads as put-path-reads
-
-mul-from : tie.Need-mul-from
-mul-from c = search needs
-
-add-from : tie.Need-add-from
-add-from c = search needs
-
-add-end : tie.Need-add-end
-add-end c = search needs
-
-sub-put-path : tie.Need-sub-put-path
-sub-put-path c = search needs
-
-part-put-path-start : tie.Need-part-put-path-start
-part-put-path-start c = search needs
-
-part-put-path-end : tie.Need-part-put-path-end
-part-put-path-end c = search needs
 
 put-path-requires : tie.Need-put-path-requires
-put-path-requires c κs = search needs
-
-same-length : tie.Need-same-length
-same-length c = search needs
+put-path-requires c κs = (paths-lent (c .before .before .pre .0) (c .before .before .pre .1 .0), (c .before .before .pre .1 .1 .0, ap (full (viewPair (c .before .before .args .p))) (paths-show (c .before .before .pre .0) (c .before .before .pre .1 .0)) ∙ c .before .before .pre .1 .1 .1))
 
 returns : tie.Need-returns
-returns c = search needs
+returns c = paths-are (setPath (viewPair (c .before .before .before .before .before .args .p)) (viewProven (c .before .before .before .before .before .args .v))) (c .before .before .before .before .before .pre .0) (c .before .before .before .before .before .pre .1 .0) (c .before .before .put-path .ensures .0) (c .before .before .put-path .ensures .1)
 
 pub path-at-spec : {M : Type 1} → statement M
-path-at-spec =
-    tie.close
-    (tie.spec
-    mul-from
-    add-from
-    add-end
-    sub-put-path
-    part-put-path-start
-    part-put-path-end
+path-at-spec = tie.close (tie.spec
+    (λ c. search needs)
+    (λ c. search needs)
+    (λ c. search needs)
+    (λ c. search needs)
+    (λ c. search needs)
+    (λ c. search needs)
     put-path-requires
-    same-length
+    (λ c. search needs)
     returns)

@@ -1,3 +1,4 @@
+-- `params::time::age` meets its contract.
 use native.Mathlib.Omega.{arith}
 use Rattle.params.specs.Later.{age-none, age-some}
 use Rattle.params.proofs.time.age.Statement.{statement}

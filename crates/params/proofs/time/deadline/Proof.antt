@@ -1,3 +1,4 @@
+-- `params::time::deadline` meets its contract.
 use native.Mathlib.Omega.{arith}
 use Rattle.params.specs.Later.{Later, later-turn, later-end, timing}
 use Rattle.params.proofs.time.deadline.Statement.{statement}
