@@ -1,6 +1,8 @@
 -- What each case of an enum means to the rules, and that a byte read gives the case that it was written for.
 use mathlib.Core.Path.{_≡_, refl}
 use mathlib.Core.Option.{some}
+use Prim.Native.Nat.{ℕ, _+_, _≤_, _<_}
+use native.Mathlib.Omega.{arith}
 use lib.ListN.{getElem?}
 use Rattle.rules.specs.Data as rule
 use Rattle.rules.specs.Field.{whys, whyCode}
@@ -45,3 +47,16 @@ why-read rule.Why.Disconnect = refl
 why-read rule.Why.Dead = refl
 why-read rule.Why.Admin = refl
 why-read rule.Why.Closed = refl
+
+-- the last of nine
+past : {n : ℕ} (k : ℕ) → k ≤ n → (n ≡ k → ⊥) → k + 1 ≤ n
+past k h d = omega arith
+
+eight : (n : ℕ) → n < 9 → 8 ≤ n → 8 ≡ n
+eight n h k = omega arith
+
+pub why-last : (n : ℕ) → n < 9 → (n ≡ 0 → ⊥) → (n ≡ 1 → ⊥) → (n ≡ 2 → ⊥) → (n ≡ 3 → ⊥) → (n ≡ 4 → ⊥) → (n ≡ 5 → ⊥) → (n ≡ 6 → ⊥) → (n ≡ 7 → ⊥) → 8 ≡ n
+why-last n h a b c d e f g i = eight n h (past 7 (past 6 (past 5 (past 4 (past 3 (past 2 (past 1 (past 0 (zero≤ n) a) b) c) d) e) f) g) i)
+  where
+    zero≤ : (n : ℕ) → 0 ≤ n
+    zero≤ n = omega arith

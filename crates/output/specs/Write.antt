@@ -36,12 +36,14 @@ message-written n m e a = rw e a
 
 -- ---- records
 
+pub frame-is : (kind n : ℕ) (fields : Bytes) → length fields ≡ n → header kind n ++ fields ≡ frame kind fields
+unfolding header frame
+frame-is kind n fields e = rw (e, append-assoc (digits 2 (n + 2)) (1 ∷ kind ∷ []) fields)
+
 -- a header and then its fields
 pub framed : {xs : Bytes} {at : ℕ} {ys : Bytes} {r m : ℕ} {zs : Bytes} {q : ℕ} (kind n : ℕ) (fields : Bytes) (k : ℕ)
     → Wrote xs at 4 (header kind n) ys r → Wrote ys r m fields zs q → n ≡ m → k ≡ 4 + m → Wrote xs at k (frame kind fields) zs q
-unfolding header frame
-framed kind n fields k a b e f =
-    rw (f, b .size, ← e, ← append-assoc (digits 2 (n + 2)) (1 ∷ kind ∷ []) fields) (rw (sym e) at (wrote-then a b))
+framed kind n fields k a b e f = rw (f, ← frame-is kind n fields (b .size ∙ sym e)) (wrote-then a b)
 
 pub written : {xs : Bytes} {at : ℕ} {ys : Bytes} {r m : ℕ} {zs : Bytes} {q : ℕ} (o : Output) (n k : ℕ)
     → Wrote xs at 4 (header (outputKind o) n) ys r → Wrote ys r m (outputBytes o) zs q → n ≡ m → k ≡ 4 + m → Wrote xs at k (outputRecord o) zs q

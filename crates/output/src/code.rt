@@ -1,9 +1,13 @@
 // The cases that an output names, and the byte of each.
+use memories::Denial;
+use memories::Refusal;
+use memories::Source;
 ghost use mathlib.Core.Path.{_≡_};
 ghost use Prim.Native.Nat.{_<_};
 ghost use Rattle.rules.specs.Base.{one};
 ghost use Rattle.rules.specs.Field.{whyCode};
-ghost use Rattle.rules.specs.Output.{buildCode, transitionCode};
+ghost use Rattle.rules.specs.Output.{buildCode, transitionCode, sourceCode, denialCode};
+ghost use Rattle.memories.specs.View.{sourceOf, denialOf};
 ghost use Rattle.output.specs.Codes.{whyOf, buildOf, transitionOf};
 
 // Why a held peer goes.
@@ -94,5 +98,34 @@ pub fn transition_code(t: Transition) -> u8
         Transition::Keep => 3,
         Transition::Restarted => 4,
         Transition::Roam => 5,
+    }
+}
+
+pub fn source_code(s: Source) -> u8
+    ensures { λ r. ⌜ r ≡ sourceCode (sourceOf s) ⌝ }
+{
+    match s {
+        Source::NotHeld => 0,
+        Source::Restart => 1,
+        Source::Replacement => 2,
+        Source::OwnMsg2 => 3,
+        Source::RekeyMsg2 => 4,
+    }
+}
+
+// The reason byte of a Reject: a Gate carries a refusal.
+pub fn denial_code(d: Denial) -> u8
+    ensures { λ r. ⌜ r ≡ denialCode (denialOf d) ⌝ }
+{
+    match d {
+        Denial::Full => 0,
+        Denial::Gate(r) => match r {
+            Refusal::Unheard => 1,
+            Refusal::Heard => 2,
+            Refusal::Dampened => 3,
+            Refusal::Replayed => 4,
+            Refusal::ReplayFull => 5,
+            Refusal::Silent => 6,
+        },
     }
 }

@@ -3,12 +3,16 @@ use crate::code::Build;
 use crate::code::Transition;
 use crate::code::Why;
 use crate::code::build_code;
+use crate::code::denial_code;
+use crate::code::source_code;
 use crate::code::transition_code;
 use crate::code::why_code;
 use crate::part::put_flag;
 use crate::part::put_frame;
 use crate::part::put_message;
 use crate::part::put_pair;
+use memories::Denial;
+use memories::Source;
 use memory::write::put_be;
 use memory::write::put_byte;
 use node_addr::LinkNo;
@@ -20,10 +24,11 @@ ghost use mathlib.Core.Option.{none, some};
 ghost use Prim.Native.Nat.{_+_, _≤_};
 ghost use lib.ListN.{length, take, drop};
 ghost use Rattle.rules.specs.Base.{if_then_else_};
-ghost use Rattle.rules.specs.Data.{Output, Opened, Resend, Rekey, Install, Reset, Free, Retry};
+ghost use Rattle.rules.specs.Data.{Output, Opened, Resend, Rekey, Install, Reset, Free, Retry, Reject};
 ghost use Rattle.rules.specs.Output.{outputRecord, doneRecord};
 ghost use Rattle.laws.specs.Splice.{Wrote};
 ghost use Rattle.node_addr.specs.View.{viewPair, FitPair};
+ghost use Rattle.memories.specs.View.{sourceOf, denialOf};
 ghost use Rattle.output.specs.Codes.{whyOf, buildOf, transitionOf};
 
 // 0, the number of the call: 0 for none.
@@ -146,16 +151,64 @@ pub fn put_retry(out: &mut [u8], at: usize, peer: NodeAddr) -> usize
     put_node(out, a, peer)
 }
 
+fn put_reject_asked(out: &mut [u8], at: usize, peer: NodeAddr, source: Source, why: Denial) -> usize
+    requires { ⌜ at + 23 ≤ length (now out) ⌝ }
+    ensures { λ r. ⌜ Wrote (now (out .entry)) at 23 (outputRecord (Reject (some (peer .0, sourceOf source)) (denialOf why))) (now (out .exit)) r ⌝ }
+{
+    let s = source_code(source);
+    let d = denial_code(why);
+    let a = put_frame(out, at, 19, 13);
+    let b = put_byte(out, a, 1);
+    let c = put_node(out, b, peer);
+    let e = put_byte(out, c, s);
+    put_byte(out, e, d)
+}
+
+fn put_reject_unasked(out: &mut [u8], at: usize, why: Denial) -> usize
+    requires { ⌜ at + 6 ≤ length (now out) ⌝ }
+    ensures { λ r. ⌜ Wrote (now (out .entry)) at 6 (outputRecord (Reject none (denialOf why))) (now (out .exit)) r ⌝ }
+{
+    let d = denial_code(why);
+    let a = put_frame(out, at, 2, 13);
+    let b = put_byte(out, a, 0);
+    put_byte(out, b, d)
+}
+
+// 13, with the peer and what asked, or without.
+pub fn put_reject(out: &mut [u8], at: usize, asked: bool, peer: NodeAddr, source: Source, why: Denial) -> usize
+    requires { ⌜ at + (if asked then 23 else 6) ≤ length (now out) ⌝ }
+    ensures { λ r. ⌜ Wrote (now (out .entry)) at (if asked then 23 else 6) (outputRecord (Reject (if asked then some (peer .0, sourceOf source) else none) (denialOf why))) (now (out .exit)) r ⌝ }
+{
+    if asked {
+        return put_reject_asked(out, at, peer, source, why);
+    }
+    put_reject_unasked(out, at, why)
+}
+
+fn put_wake_at(out: &mut [u8], at: usize, time: u64) -> usize
+    requires { ⌜ at + 13 ≤ length (now out) ⌝ }
+    ensures { λ r. ⌜ Wrote (now (out .entry)) at 13 (outputRecord (Output.Wake (some time))) (now (out .exit)) r ⌝ }
+{
+    let a = put_frame(out, at, 9, 14);
+    let b = put_byte(out, a, 1);
+    put_be(out, b, time, 8)
+}
+
+fn put_wake_never(out: &mut [u8], at: usize) -> usize
+    requires { ⌜ at + 5 ≤ length (now out) ⌝ }
+    ensures { λ r. ⌜ Wrote (now (out .entry)) at 5 (outputRecord (Output.Wake none)) (now (out .exit)) r ⌝ }
+{
+    let a = put_frame(out, at, 1, 14);
+    put_byte(out, a, 0)
+}
+
 // 14, with a time or without.
 pub fn put_wake(out: &mut [u8], at: usize, timed: bool, time: u64) -> usize
     requires { ⌜ at + (if timed then 13 else 5) ≤ length (now out) ⌝ }
     ensures { λ r. ⌜ Wrote (now (out .entry)) at (if timed then 13 else 5) (outputRecord (Output.Wake (if timed then some time else none))) (now (out .exit)) r ⌝ }
 {
-    if !timed {
-        let a = put_frame(out, at, 1, 14);
-        return put_byte(out, a, 0);
+    if timed {
+        return put_wake_at(out, at, time);
     }
-    let a = put_frame(out, at, 9, 14);
-    let b = put_byte(out, a, 1);
-    put_be(out, b, time, 8)
+    put_wake_never(out, at)
 }

@@ -1,30 +1,15 @@
 use borrow.Author.Needs.{needs}
+use Rattle.laws.specs.Splice.{wrote-then}
+use Rattle.output.specs.Write.{header-written}
 use Rattle.output.proofs.part.put_frame.Statement.{statement}
 use Rattle.output.proofs.part.put_frame.Tie as tie
-use Rattle.output.proofs.part.put_frame.Reads as reads
-use Rattle.output.proofs.part.put_frame.Lts as lts
-use Rattle.memory.proofs.write.put_be.Reads as put-be-reads
-use Rattle.memory.proofs.write.put_byte.Reads as put-byte-reads
-
-add-put-be : tie.Need-add-put-be
-add-put-be c = search needs
-
-put-be-requires : tie.Need-put-be-requires
-put-be-requires c κs = search needs
-
-put-byte-requires : tie.Need-put-byte-requires
-put-byte-requires c κs = search needs
-
-put-byte-requires-2 : tie.Need-put-byte-requires-2
-put-byte-requires-2 c κs = search needs
-
-same-length : tie.Need-same-length
-same-length c = search needs
 
 returns : tie.Need-returns
-returns c = search needs
+returns c =
+    let k = c .before .before in
+    let v = k .before .before .before .before in
+    let l = v .before .before .before .before in
+    header-written _ _ (wrote-then (wrote-then (l .put-be .ensures) (v .put-byte .ensures)) (k .put-byte2 .ensures))
 
 pub put-frame-spec : {M : Type 1} → statement M
-put-frame-spec =
-    tie.close
-    (tie.spec add-put-be put-be-requires put-byte-requires put-byte-requires-2 same-length returns)
+put-frame-spec = tie.close (tie.spec (λ c. search needs) (λ c κs. search needs) (λ c κs. search needs) (λ c κs. search needs) (λ c. search needs) returns)

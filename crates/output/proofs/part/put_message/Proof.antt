@@ -1,22 +1,14 @@
 use borrow.Author.Needs.{needs}
+use Rattle.laws.specs.Splice.{wrote-then}
+use Rattle.output.specs.Write.{message-written}
 use Rattle.output.proofs.part.put_message.Statement.{statement}
 use Rattle.output.proofs.part.put_message.Tie as tie
-use Rattle.output.proofs.part.put_message.Reads as reads
-use Rattle.output.proofs.part.put_message.Lts as lts
-use Rattle.memory.proofs.write.put_be.Reads as put-be-reads
-use Rattle.memory.proofs.write.put_run.Reads as put-run-reads
-
-put-be-requires : tie.Need-put-be-requires
-put-be-requires c κs = search needs
-
-put-run-requires : tie.Need-put-run-requires
-put-run-requires c κs = search needs
-
-same-length : tie.Need-same-length
-same-length c = search needs
 
 returns : tie.Need-returns
-returns c = search needs
+returns c =
+    let m = c .before .before in
+    let l = m .before .before .before .before in
+    message-written _ _ (m .put-run .ensures .size) (wrote-then (l .put-be .ensures) (m .put-run .ensures))
 
 pub put-message-spec : {M : Type 1} → statement M
-put-message-spec = tie.close (tie.spec put-be-requires put-run-requires same-length returns)
+put-message-spec = tie.close (tie.spec (λ c κs. search needs) (λ c κs. search needs) (λ c. search needs) returns)

@@ -1,30 +1,15 @@
 use borrow.Author.Needs.{needs}
+use Rattle.laws.specs.Splice.{wrote-then}
+use Rattle.output.specs.Write.{pair-written}
 use Rattle.output.proofs.part.put_pair.Statement.{statement}
 use Rattle.output.proofs.part.put_pair.Tie as tie
-use Rattle.output.proofs.part.put_pair.Reads as reads
-use Rattle.output.proofs.part.put_pair.Lts as lts
-use Rattle.memory.proofs.write.put_48.Reads as put-48-reads
-use Rattle.memory.proofs.write.put_be.Reads as put-be-reads
-
-cast-put-be : tie.Need-cast-put-be
-cast-put-be c = search needs
-
-put-be-requires : tie.Need-put-be-requires
-put-be-requires c κs = search needs
-
-put-be-requires-2 : tie.Need-put-be-requires-2
-put-be-requires-2 c κs = search needs
-
-put-48-requires : tie.Need-put-48-requires
-put-48-requires c κs = search needs
-
-same-length : tie.Need-same-length
-same-length c = search needs
 
 returns : tie.Need-returns
-returns c = search needs
+returns c =
+    let a = c .before .before in
+    let l = a .before .before .before .before in
+    let t = l .before .before .before .before in
+    pair-written (t .before .before .before .before .before .pre .0) (wrote-then (wrote-then (t .put-be .ensures) (l .put-be2 .ensures)) (a .put-48 .ensures))
 
 pub put-pair-spec : {M : Type 1} → statement M
-put-pair-spec =
-    tie.close
-    (tie.spec cast-put-be put-be-requires put-be-requires-2 put-48-requires same-length returns)
+put-pair-spec = tie.close (tie.spec (λ c. search needs) (λ c κs. search needs) (λ c κs. search needs) (λ c κs. search needs) (λ c. search needs) returns)

@@ -1,42 +1,20 @@
 use borrow.Author.Needs.{needs}
+use native.Mathlib.Omega.{arith}
+use Rattle.laws.specs.Splice.{wrote-then}
+use Rattle.rules.specs.Data.{Output}
+use Rattle.rules.specs.Output.{outputBytes}
+use Rattle.output.specs.Write.{written}
 use Rattle.output.proofs.put.put_answer.Statement.{statement}
 use Rattle.output.proofs.put.put_answer.Tie as tie
-use Rattle.output.proofs.put.put_answer.Reads as reads
-use Rattle.output.proofs.put.put_answer.Lts as lts
-use Rattle.memory.proofs.write.put_be.Reads as put-be-reads
-use Rattle.output.proofs.part.put_flag.Reads as put-flag-reads
-use Rattle.output.proofs.part.put_frame.Reads as put-frame-reads
-use Rattle.output.proofs.part.put_message.Reads as put-message-reads
-
-add-put-frame : tie.Need-add-put-frame
-add-put-frame c = search needs
-
-put-frame-requires : tie.Need-put-frame-requires
-put-frame-requires c κs = search needs
-
-put-be-requires : tie.Need-put-be-requires
-put-be-requires c κs = search needs
-
-put-flag-requires : tie.Need-put-flag-requires
-put-flag-requires c κs = search needs
-
-put-message-requires : tie.Need-put-message-requires
-put-message-requires c κs = search needs
-
-same-length : tie.Need-same-length
-same-length c = search needs
 
 returns : tie.Need-returns
-returns c = search needs
+unfolding outputBytes
+returns c =
+    let m = c .before .before in
+    let f = m .before .before .before .before in
+    let b = f .before .before .before .before in
+    let a = b .before .before .before .before in
+    written (Output.Answer _ _ _) _ _ (a .put-frame .ensures) (wrote-then (wrote-then (b .put-be .ensures) (f .put-flag .ensures)) (m .put-message .ensures)) (omega arith) (omega arith)
 
 pub put-answer-spec : {M : Type 1} → statement M
-put-answer-spec =
-    tie.close
-    (tie.spec
-    add-put-frame
-    put-frame-requires
-    put-be-requires
-    put-flag-requires
-    put-message-requires
-    same-length
-    returns)
+put-answer-spec = tie.close (tie.spec (λ c. search needs) (λ c κs. search needs) (λ c κs. search needs) (λ c κs. search needs) (λ c κs. search needs) (λ c. search needs) returns)

@@ -1,22 +1,13 @@
 use borrow.Author.Needs.{needs}
+use Rattle.output.specs.Write.{done-written}
 use Rattle.output.proofs.put.put_done.Statement.{statement}
 use Rattle.output.proofs.put.put_done.Tie as tie
-use Rattle.output.proofs.put.put_done.Reads as reads
-use Rattle.output.proofs.put.put_done.Lts as lts
-use Rattle.memory.proofs.write.put_byte.Reads as put-byte-reads
-use Rattle.output.proofs.part.put_frame.Reads as put-frame-reads
-
-put-frame-requires : tie.Need-put-frame-requires
-put-frame-requires c κs = search needs
-
-put-byte-requires : tie.Need-put-byte-requires
-put-byte-requires c κs = search needs
-
-same-length : tie.Need-same-length
-same-length c = search needs
 
 returns : tie.Need-returns
-returns c = search needs
+returns c =
+    let b = c .before .before in
+    let a = b .before .before .before .before in
+    done-written _ (a .put-frame .ensures) (b .put-byte .ensures)
 
 pub put-done-spec : {M : Type 1} → statement M
-put-done-spec = tie.close (tie.spec put-frame-requires put-byte-requires same-length returns)
+put-done-spec = tie.close (tie.spec (λ c κs. search needs) (λ c κs. search needs) (λ c. search needs) returns)

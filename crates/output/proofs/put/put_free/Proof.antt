@@ -1,22 +1,17 @@
 use borrow.Author.Needs.{needs}
+use mathlib.Core.Path.{refl}
+use Rattle.rules.specs.Data.{Output, Free}
+use Rattle.rules.specs.Output.{outputBytes}
+use Rattle.output.specs.Write.{written}
 use Rattle.output.proofs.put.put_free.Statement.{statement}
 use Rattle.output.proofs.put.put_free.Tie as tie
-use Rattle.output.proofs.put.put_free.Reads as reads
-use Rattle.output.proofs.put.put_free.Lts as lts
-use Rattle.memory.proofs.write.put_be.Reads as put-be-reads
-use Rattle.output.proofs.part.put_frame.Reads as put-frame-reads
-
-put-frame-requires : tie.Need-put-frame-requires
-put-frame-requires c κs = search needs
-
-put-be-requires : tie.Need-put-be-requires
-put-be-requires c κs = search needs
-
-same-length : tie.Need-same-length
-same-length c = search needs
 
 returns : tie.Need-returns
-returns c = search needs
+unfolding outputBytes
+returns c =
+    let b = c .before .before in
+    let a = b .before .before .before .before in
+    written (Free _) _ _ (a .put-frame .ensures) (b .put-be .ensures) refl refl
 
 pub put-free-spec : {M : Type 1} → statement M
-put-free-spec = tie.close (tie.spec put-frame-requires put-be-requires same-length returns)
+put-free-spec = tie.close (tie.spec (λ c κs. search needs) (λ c κs. search needs) (λ c. search needs) returns)

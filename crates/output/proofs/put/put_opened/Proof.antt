@@ -1,22 +1,17 @@
 use borrow.Author.Needs.{needs}
+use mathlib.Core.Path.{refl}
+use Rattle.rules.specs.Data.{Output, Opened}
+use Rattle.rules.specs.Output.{outputBytes}
+use Rattle.output.specs.Write.{written}
 use Rattle.output.proofs.put.put_opened.Statement.{statement}
 use Rattle.output.proofs.put.put_opened.Tie as tie
-use Rattle.output.proofs.put.put_opened.Reads as reads
-use Rattle.output.proofs.put.put_opened.Lts as lts
-use Rattle.memory.proofs.write.put_be.Reads as put-be-reads
-use Rattle.output.proofs.part.put_frame.Reads as put-frame-reads
-
-put-frame-requires : tie.Need-put-frame-requires
-put-frame-requires c κs = search needs
-
-put-be-requires : tie.Need-put-be-requires
-put-be-requires c κs = search needs
-
-same-length : tie.Need-same-length
-same-length c = search needs
 
 returns : tie.Need-returns
-returns c = search needs
+unfolding outputBytes
+returns c =
+    let b = c .before .before in
+    let a = b .before .before .before .before in
+    written (Opened _) _ _ (a .put-frame .ensures) (b .put-be .ensures) refl refl
 
 pub put-opened-spec : {M : Type 1} → statement M
-put-opened-spec = tie.close (tie.spec put-frame-requires put-be-requires same-length returns)
+put-opened-spec = tie.close (tie.spec (λ c κs. search needs) (λ c κs. search needs) (λ c. search needs) returns)

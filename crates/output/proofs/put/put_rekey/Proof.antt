@@ -1,37 +1,20 @@
 use borrow.Author.Needs.{needs}
+use mathlib.Core.Path.{refl}
+use Rattle.laws.specs.Splice.{wrote-then}
+use Rattle.rules.specs.Data.{Output, Rekey}
+use Rattle.rules.specs.Output.{outputBytes}
+use Rattle.output.specs.Write.{written}
 use Rattle.output.proofs.put.put_rekey.Statement.{statement}
 use Rattle.output.proofs.put.put_rekey.Tie as tie
-use Rattle.output.proofs.put.put_rekey.Reads as reads
-use Rattle.output.proofs.put.put_rekey.Lts as lts
-use Rattle.node_addr.proofs.place.put_node.Reads as put-node-reads
-use Rattle.output.proofs.part.put_flag.Reads as put-flag-reads
-use Rattle.output.proofs.part.put_frame.Reads as put-frame-reads
-
-put-frame-requires : tie.Need-put-frame-requires
-put-frame-requires c κs = search needs
-
-put-node-requires : tie.Need-put-node-requires
-put-node-requires c κs = search needs
-
-put-flag-requires : tie.Need-put-flag-requires
-put-flag-requires c κs = search needs
-
-put-flag-requires-2 : tie.Need-put-flag-requires-2
-put-flag-requires-2 c κs = search needs
-
-same-length : tie.Need-same-length
-same-length c = search needs
 
 returns : tie.Need-returns
-returns c = search needs
+unfolding outputBytes
+returns c =
+    let g = c .before .before in
+    let f = g .before .before .before .before in
+    let b = f .before .before .before .before in
+    let a = b .before .before .before .before in
+    written (Rekey _ _ _) _ _ (a .put-frame .ensures) (wrote-then (wrote-then (b .put-node .ensures) (f .put-flag .ensures)) (g .put-flag2 .ensures)) refl refl
 
 pub put-rekey-spec : {M : Type 1} → statement M
-put-rekey-spec =
-    tie.close
-    (tie.spec
-    put-frame-requires
-    put-node-requires
-    put-flag-requires
-    put-flag-requires-2
-    same-length
-    returns)
+put-rekey-spec = tie.close (tie.spec (λ c κs. search needs) (λ c κs. search needs) (λ c κs. search needs) (λ c κs. search needs) (λ c. search needs) returns)

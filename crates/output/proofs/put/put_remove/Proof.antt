@@ -1,38 +1,19 @@
 use borrow.Author.Needs.{needs}
+use mathlib.Core.Path.{refl}
+use Rattle.laws.specs.Splice.{wrote-then}
+use Rattle.rules.specs.Data.{Output}
+use Rattle.rules.specs.Output.{outputBytes}
+use Rattle.output.specs.Write.{written}
 use Rattle.output.proofs.put.put_remove.Statement.{statement}
 use Rattle.output.proofs.put.put_remove.Tie as tie
-use Rattle.output.proofs.put.put_remove.Reads as reads
-use Rattle.output.proofs.put.put_remove.Lts as lts
-use Rattle.memory.proofs.write.put_byte.Reads as put-byte-reads
-use Rattle.node_addr.proofs.place.put_node.Reads as put-node-reads
-use Rattle.output.proofs.code.why_code.Reads as why-code-reads
-use Rattle.output.proofs.part.put_frame.Reads as put-frame-reads
-
-why-code-requires : tie.Need-why-code-requires
-why-code-requires c κs = search needs
-
-put-frame-requires : tie.Need-put-frame-requires
-put-frame-requires c κs = search needs
-
-put-node-requires : tie.Need-put-node-requires
-put-node-requires c κs = search needs
-
-put-byte-requires : tie.Need-put-byte-requires
-put-byte-requires c κs = search needs
-
-same-length : tie.Need-same-length
-same-length c = search needs
 
 returns : tie.Need-returns
-returns c = search needs
+unfolding outputBytes
+returns c =
+    let k = c .before .before in
+    let b = k .before .before .before .before in
+    let a = b .before .before .before .before in
+    written (Output.Remove _ _) _ _ (a .put-frame .ensures) (wrote-then (b .put-node .ensures) (rw (a .before .before .why-code .ensures) at (k .put-byte .ensures))) refl refl
 
 pub put-remove-spec : {M : Type 1} → statement M
-put-remove-spec =
-    tie.close
-    (tie.spec
-    why-code-requires
-    put-frame-requires
-    put-node-requires
-    put-byte-requires
-    same-length
-    returns)
+put-remove-spec = tie.close (tie.spec (λ c κs. search needs) (λ c κs. search needs) (λ c κs. search needs) (λ c κs. search needs) (λ c. search needs) returns)

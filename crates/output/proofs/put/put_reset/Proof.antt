@@ -1,38 +1,19 @@
 use borrow.Author.Needs.{needs}
+use mathlib.Core.Path.{refl}
+use Rattle.laws.specs.Splice.{wrote-then}
+use Rattle.rules.specs.Data.{Output, Reset}
+use Rattle.rules.specs.Output.{outputBytes}
+use Rattle.output.specs.Write.{written}
 use Rattle.output.proofs.put.put_reset.Statement.{statement}
 use Rattle.output.proofs.put.put_reset.Tie as tie
-use Rattle.output.proofs.put.put_reset.Reads as reads
-use Rattle.output.proofs.put.put_reset.Lts as lts
-use Rattle.memory.proofs.write.put_byte.Reads as put-byte-reads
-use Rattle.node_addr.proofs.place.put_node.Reads as put-node-reads
-use Rattle.output.proofs.code.transition_code.Reads as transition-code-reads
-use Rattle.output.proofs.part.put_frame.Reads as put-frame-reads
-
-transition-code-requires : tie.Need-transition-code-requires
-transition-code-requires c κs = search needs
-
-put-frame-requires : tie.Need-put-frame-requires
-put-frame-requires c κs = search needs
-
-put-node-requires : tie.Need-put-node-requires
-put-node-requires c κs = search needs
-
-put-byte-requires : tie.Need-put-byte-requires
-put-byte-requires c κs = search needs
-
-same-length : tie.Need-same-length
-same-length c = search needs
 
 returns : tie.Need-returns
-returns c = search needs
+unfolding outputBytes
+returns c =
+    let k = c .before .before in
+    let b = k .before .before .before .before in
+    let a = b .before .before .before .before in
+    written (Reset _ _) _ _ (a .put-frame .ensures) (wrote-then (b .put-node .ensures) (rw (a .before .before .transition-code .ensures) at (k .put-byte .ensures))) refl refl
 
 pub put-reset-spec : {M : Type 1} → statement M
-put-reset-spec =
-    tie.close
-    (tie.spec
-    transition-code-requires
-    put-frame-requires
-    put-node-requires
-    put-byte-requires
-    same-length
-    returns)
+put-reset-spec = tie.close (tie.spec (λ c κs. search needs) (λ c κs. search needs) (λ c κs. search needs) (λ c κs. search needs) (λ c. search needs) returns)

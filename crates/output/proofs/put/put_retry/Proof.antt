@@ -1,22 +1,17 @@
 use borrow.Author.Needs.{needs}
+use mathlib.Core.Path.{refl}
+use Rattle.rules.specs.Data.{Output, Retry}
+use Rattle.rules.specs.Output.{outputBytes}
+use Rattle.output.specs.Write.{written}
 use Rattle.output.proofs.put.put_retry.Statement.{statement}
 use Rattle.output.proofs.put.put_retry.Tie as tie
-use Rattle.output.proofs.put.put_retry.Reads as reads
-use Rattle.output.proofs.put.put_retry.Lts as lts
-use Rattle.node_addr.proofs.place.put_node.Reads as put-node-reads
-use Rattle.output.proofs.part.put_frame.Reads as put-frame-reads
-
-put-frame-requires : tie.Need-put-frame-requires
-put-frame-requires c κs = search needs
-
-put-node-requires : tie.Need-put-node-requires
-put-node-requires c κs = search needs
-
-same-length : tie.Need-same-length
-same-length c = search needs
 
 returns : tie.Need-returns
-returns c = search needs
+unfolding outputBytes
+returns c =
+    let b = c .before .before in
+    let a = b .before .before .before .before in
+    written (Retry _) _ _ (a .put-frame .ensures) (b .put-node .ensures) refl refl
 
 pub put-retry-spec : {M : Type 1} → statement M
-put-retry-spec = tie.close (tie.spec put-frame-requires put-node-requires same-length returns)
+put-retry-spec = tie.close (tie.spec (λ c κs. search needs) (λ c κs. search needs) (λ c. search needs) returns)

@@ -3,15 +3,11 @@ use Rattle.output.proofs.put.put_wake.Statement.{statement}
 use Rattle.output.proofs.put.put_wake.Tie as tie
 use Rattle.output.proofs.put.put_wake.Reads as reads
 use Rattle.output.proofs.put.put_wake.Lts as lts
-use Rattle.memory.proofs.write.put_be.Reads as put-be-reads
-use Rattle.memory.proofs.write.put_byte.Reads as put-byte-reads
-use Rattle.output.proofs.part.put_frame.Reads as put-frame-reads
+use Rattle.output.proofs.put.put_wake_at.Reads as put-wake-at-reads
+use Rattle.output.proofs.put.put_wake_never.Reads as put-wake-never-reads
 
-put-frame-requires : tie.Need-put-frame-requires
-put-frame-requires c κs = search needs
-
-put-byte-requires : tie.Need-put-byte-requires
-put-byte-requires c κs = search needs
+put-wake-at-requires : tie.Need-put-wake-at-requires
+put-wake-at-requires c κs = search needs
 
 same-length : tie.Need-same-length
 same-length c = search needs
@@ -19,14 +15,8 @@ same-length c = search needs
 returns : tie.Need-returns
 returns c = search needs
 
-put-frame-requires-2 : tie.Need-put-frame-requires-2
-put-frame-requires-2 c κs = search needs
-
-put-byte-requires-2 : tie.Need-put-byte-requires-2
-put-byte-requires-2 c κs = search needs
-
-put-be-requires : tie.Need-put-be-requires
-put-be-requires c κs = search needs
+put-wake-never-requires : tie.Need-put-wake-never-requires
+put-wake-never-requires c κs = search needs
 
 same-length-2 : tie.Need-same-length-2
 same-length-2 c = search needs
@@ -38,12 +28,9 @@ pub put-wake-spec : {M : Type 1} → statement M
 put-wake-spec =
     tie.close
     (tie.spec
-    put-frame-requires
-    put-byte-requires
+    put-wake-at-requires
     same-length
     returns
-    put-frame-requires-2
-    put-byte-requires-2
-    put-be-requires
+    put-wake-never-requires
     same-length-2
     returns-2)
