@@ -57,7 +57,7 @@ pairs-small {n = n} {ps} k =
     rw e at (pairs-most (take n ps) (all-take FitPair n ps (k .each)))
 
 pub pairs-count : {b : pair.Pair} {cap n : ℕ} {ps : List pair.Pair} → Kept FitPair b cap n ps → length (map viewPair (take n ps)) ≡ n
-pairs-count {n = n} {ps} k = length-map viewPair (take n ps) ∙ length-take-le n ps (omega arith)
+pairs-count {n = n} {ps} k = length-map (take n ps) viewPair ∙ length-take-le n ps (omega arith)
 
 -- ---- the loop that puts the first n pairs of ps, and stands at i: what is left to put makes the whole
 pub record Listing (xs : Bytes) (at n : ℕ) (ps : List pair.Pair) (l : Bytes) (e i : ℕ) : Type 0 where
@@ -85,11 +85,11 @@ module _ {xs : Bytes} {at n : ℕ} {ps : List pair.Pair} {l : Bytes} {e i : ℕ}
   -- room for the pair at i
   pub listing-room : (d : pair.Pair) → i < n → e + (5 + getD ps i d .addr .len) ≤ length l
   listing-room d p =
-      omega
-      ( arith
-      , ap length (rest-cons d p)
-      , length-append (pairBytes (viewPair (getD ps i d))) (pairsBytes (map viewPair (drop (suc i) (take n ps))))
-      , pair-length (listing-fit d p)
+      omega (
+        arith,
+        ap length (rest-cons d p),
+        length-append (pairBytes (viewPair (getD ps i d))) (pairsBytes (map viewPair (drop (suc i) (take n ps)))),
+        pair-length (listing-fit d p),
       )
 
   pub listing-turn : {m : ℕ} {l′ : Bytes} {e′ : ℕ} (d : pair.Pair) → i < n → Wrote l e m (pairBytes (viewPair (getD ps i d))) l′ e′ → Listing xs at n ps l′ e′ (i + 1)

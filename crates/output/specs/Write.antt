@@ -93,10 +93,10 @@ splice-front xs bs cs at h =
     let n : ℕ = at + length bs in
     let l : length (take (at + length bs) xs) ≡ at + length bs = length-take-le (at + length bs) xs (omega arith) in
     let t : Bytes = cs ++ drop (at + length bs + length cs) xs in
-    rw
-    ( take-append-le at (take (at + length bs) xs) t (omega arith)
-    , take-take at (at + length bs) xs (omega arith)
-    , drop-at (take (at + length bs) xs) t (at + length bs) l
+    rw (
+      take-append-le at (take (at + length bs) xs) t (omega arith),
+      take-take at (at + length bs) xs (omega arith),
+      drop-at (take (at + length bs) xs) t (at + length bs) l,
     )
     (simp (append-assoc, length-append, add-assoc))
 

@@ -50,7 +50,15 @@ pub fn put_opened(out: &mut [u8], at: usize, link: LinkNo) -> usize
 }
 
 // 2, of a message of n bytes that stands in another slice.
-pub fn put_answer(out: &mut [u8], at: usize, link: LinkNo, stored: bool, src: &[u8], from: usize, n: usize) -> usize
+pub fn put_answer(
+    out: &mut [u8],
+    at: usize,
+    link: LinkNo,
+    stored: bool,
+    src: &[u8],
+    from: usize,
+    n: usize,
+) -> usize
     requires { ⌜ n ≤ 128 ⌝ }
     requires { ⌜ from + n ≤ length (now src) ⌝ }
     requires { ⌜ at + (15 + n) ≤ length (now out) ⌝ }
@@ -63,7 +71,14 @@ pub fn put_answer(out: &mut [u8], at: usize, link: LinkNo, stored: bool, src: &[
 }
 
 // 3
-pub fn put_resend(out: &mut [u8], at: usize, link: LinkNo, src: &[u8], from: usize, n: usize) -> usize
+pub fn put_resend(
+    out: &mut [u8],
+    at: usize,
+    link: LinkNo,
+    src: &[u8],
+    from: usize,
+    n: usize,
+) -> usize
     requires { ⌜ n ≤ 128 ⌝ }
     requires { ⌜ from + n ≤ length (now src) ⌝ }
     requires { ⌜ at + (14 + n) ≤ length (now out) ⌝ }
@@ -175,7 +190,14 @@ fn put_reject_unasked(out: &mut [u8], at: usize, why: Denial) -> usize
 }
 
 // 13, with the peer and what asked, or without.
-pub fn put_reject(out: &mut [u8], at: usize, asked: bool, peer: NodeAddr, source: Source, why: Denial) -> usize
+pub fn put_reject(
+    out: &mut [u8],
+    at: usize,
+    asked: bool,
+    peer: NodeAddr,
+    source: Source,
+    why: Denial,
+) -> usize
     requires { ⌜ at + (if asked then 23 else 6) ≤ length (now out) ⌝ }
     ensures { λ r. ⌜ Wrote (now (out .entry)) at (if asked then 23 else 6) (outputRecord (Reject (if asked then some (peer .0, sourceOf source) else none) (denialOf why))) (now (out .exit)) r ⌝ }
 {

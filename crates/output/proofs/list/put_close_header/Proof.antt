@@ -1,26 +1,15 @@
 use borrow.Author.Needs.{needs}
+use Rattle.laws.specs.Splice.{wrote-then}
+use Rattle.output.specs.Lists.{closeHeader}
 use Rattle.output.proofs.list.put_close_header.Statement.{statement}
 use Rattle.output.proofs.list.put_close_header.Tie as tie
-use Rattle.output.proofs.list.put_close_header.Reads as reads
-use Rattle.output.proofs.list.put_close_header.Lts as lts
-use Rattle.memory.proofs.write.put_be.Reads as put-be-reads
-use Rattle.output.proofs.part.put_frame.Reads as put-frame-reads
-
-add-put-frame : tie.Need-add-put-frame
-add-put-frame c = search needs
-
-put-frame-requires : tie.Need-put-frame-requires
-put-frame-requires c κs = search needs
-
-put-be-requires : tie.Need-put-be-requires
-put-be-requires c κs = search needs
-
-same-length : tie.Need-same-length
-same-length c = search needs
 
 returns : tie.Need-returns
-returns c = search needs
+unfolding closeHeader
+returns c =
+    let n = c .before .before in
+    let a = n .before .before .before .before in
+    wrote-then (a .put-frame .ensures) (n .put-be .ensures)
 
 pub put-close-header-spec : {M : Type 1} → statement M
-put-close-header-spec =
-    tie.close (tie.spec add-put-frame put-frame-requires put-be-requires same-length returns)
+put-close-header-spec = tie.close (tie.spec (λ c. search needs) (λ c κs. search needs) (λ c κs. search needs) (λ c. search needs) returns)

@@ -1,26 +1,21 @@
 use borrow.Author.Needs.{needs}
+use mathlib.Core.Path.{refl}
+use Rattle.laws.specs.Splice.{wrote-then}
+use mathlib.Core.List.{[]}
+use Rattle.rules.specs.Data.{Output}
+use Rattle.rules.specs.Output.{outputBytes}
+use Rattle.output.specs.Write.{written}
+use Rattle.output.specs.Lists.{list-none}
 use Rattle.output.proofs.list.put_release_none.Statement.{statement}
 use Rattle.output.proofs.list.put_release_none.Tie as tie
-use Rattle.output.proofs.list.put_release_none.Reads as reads
-use Rattle.output.proofs.list.put_release_none.Lts as lts
-use Rattle.memory.proofs.write.put_be.Reads as put-be-reads
-use Rattle.output.proofs.part.put_frame.Reads as put-frame-reads
-
-put-frame-requires : tie.Need-put-frame-requires
-put-frame-requires c κs = search needs
-
-put-be-requires : tie.Need-put-be-requires
-put-be-requires c κs = search needs
-
-put-be-requires-2 : tie.Need-put-be-requires-2
-put-be-requires-2 c κs = search needs
-
-same-length : tie.Need-same-length
-same-length c = search needs
 
 returns : tie.Need-returns
-returns c = search needs
+unfolding outputBytes
+returns c =
+    let n = c .before .before in
+    let b = n .before .before .before .before in
+    let a = b .before .before .before .before in
+    written (Output.Release _ []) _ _ (a .put-frame .ensures) (wrote-then (b .put-be .ensures) (list-none (n .put-be2 .ensures))) refl refl
 
 pub put-release-none-spec : {M : Type 1} → statement M
-put-release-none-spec =
-    tie.close (tie.spec put-frame-requires put-be-requires put-be-requires-2 same-length returns)
+put-release-none-spec = tie.close (tie.spec (λ c κs. search needs) (λ c κs. search needs) (λ c κs. search needs) (λ c. search needs) returns)

@@ -1,41 +1,22 @@
 use borrow.Author.Needs.{needs}
+use native.Mathlib.Omega.{arith}
+use Rattle.laws.specs.Splice.{wrote-then}
+use mathlib.Core.List.{[], _∷_}
+use Rattle.rules.specs.Data.{Output}
+use Rattle.rules.specs.Output.{outputBytes}
+use Rattle.output.specs.Write.{written}
+use Rattle.output.specs.Lists.{list-one}
 use Rattle.output.proofs.list.put_release_one.Statement.{statement}
 use Rattle.output.proofs.list.put_release_one.Tie as tie
-use Rattle.output.proofs.list.put_release_one.Reads as reads
-use Rattle.output.proofs.list.put_release_one.Lts as lts
-use Rattle.memory.proofs.write.put_be.Reads as put-be-reads
-use Rattle.output.proofs.part.put_frame.Reads as put-frame-reads
-use Rattle.output.proofs.part.put_pair.Reads as put-pair-reads
-
-add-put-frame : tie.Need-add-put-frame
-add-put-frame c = search needs
-
-put-frame-requires : tie.Need-put-frame-requires
-put-frame-requires c κs = search needs
-
-put-be-requires : tie.Need-put-be-requires
-put-be-requires c κs = search needs
-
-put-be-requires-2 : tie.Need-put-be-requires-2
-put-be-requires-2 c κs = search needs
-
-put-pair-requires : tie.Need-put-pair-requires
-put-pair-requires c κs = search needs
-
-same-length : tie.Need-same-length
-same-length c = search needs
 
 returns : tie.Need-returns
-returns c = search needs
+unfolding outputBytes
+returns c =
+    let p = c .before .before in
+    let n = p .before .before .before .before in
+    let b = n .before .before .before .before in
+    let a = b .before .before .before .before in
+    written (Output.Release _ (_ ∷ [])) _ _ (a .put-frame .ensures) (wrote-then (b .put-be .ensures) (list-one _ (wrote-then (n .put-be2 .ensures) (p .put-pair .ensures)))) (omega arith) (omega arith)
 
 pub put-release-one-spec : {M : Type 1} → statement M
-put-release-one-spec =
-    tie.close
-    (tie.spec
-    add-put-frame
-    put-frame-requires
-    put-be-requires
-    put-be-requires-2
-    put-pair-requires
-    same-length
-    returns)
+put-release-one-spec = tie.close (tie.spec (λ c. search needs) (λ c κs. search needs) (λ c κs. search needs) (λ c κs. search needs) (λ c κs. search needs) (λ c. search needs) returns)

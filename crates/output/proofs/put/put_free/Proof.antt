@@ -1,6 +1,6 @@
 use borrow.Author.Needs.{needs}
 use mathlib.Core.Path.{refl}
-use Rattle.rules.specs.Data.{Output, Free}
+use Rattle.rules.specs.Data.{Free}
 use Rattle.rules.specs.Output.{outputBytes}
 use Rattle.output.specs.Write.{written}
 use Rattle.output.proofs.put.put_free.Statement.{statement}

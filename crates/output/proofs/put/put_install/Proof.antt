@@ -1,7 +1,7 @@
 use borrow.Author.Needs.{needs}
 use native.Mathlib.Omega.{arith}
 use Rattle.laws.specs.Splice.{wrote-then}
-use Rattle.rules.specs.Data.{Output, Install}
+use Rattle.rules.specs.Data.{Install}
 use Rattle.rules.specs.Output.{outputBytes, installBytes}
 use Rattle.output.specs.Write.{written}
 use Rattle.output.proofs.put.put_install.Statement.{statement}

@@ -1,6 +1,6 @@
 use borrow.Author.Needs.{needs}
 use mathlib.Core.Path.{refl}
-use Rattle.rules.specs.Data.{Output, Opened}
+use Rattle.rules.specs.Data.{Opened}
 use Rattle.rules.specs.Output.{outputBytes}
 use Rattle.output.specs.Write.{written}
 use Rattle.output.proofs.put.put_opened.Statement.{statement}

@@ -1,37 +1,20 @@
 use borrow.Author.Needs.{needs}
+use mathlib.Core.Path.{refl}
+use Rattle.laws.specs.Splice.{wrote-then}
+use Rattle.rules.specs.Data.{Reject}
+use mathlib.Core.Option.{none}
+use Rattle.rules.specs.Output.{outputBytes}
+use Rattle.output.specs.Write.{written}
 use Rattle.output.proofs.put.put_reject_unasked.Statement.{statement}
 use Rattle.output.proofs.put.put_reject_unasked.Tie as tie
-use Rattle.output.proofs.put.put_reject_unasked.Reads as reads
-use Rattle.output.proofs.put.put_reject_unasked.Lts as lts
-use Rattle.memory.proofs.write.put_byte.Reads as put-byte-reads
-use Rattle.output.proofs.code.denial_code.Reads as denial-code-reads
-use Rattle.output.proofs.part.put_frame.Reads as put-frame-reads
-
-denial-code-requires : tie.Need-denial-code-requires
-denial-code-requires c κs = search needs
-
-put-frame-requires : tie.Need-put-frame-requires
-put-frame-requires c κs = search needs
-
-put-byte-requires : tie.Need-put-byte-requires
-put-byte-requires c κs = search needs
-
-put-byte-requires-2 : tie.Need-put-byte-requires-2
-put-byte-requires-2 c κs = search needs
-
-same-length : tie.Need-same-length
-same-length c = search needs
 
 returns : tie.Need-returns
-returns c = search needs
+unfolding outputBytes
+returns c =
+    let d = c .before .before in
+    let b = d .before .before .before .before in
+    let a = b .before .before .before .before in
+    written (Reject none _) _ _ (a .put-frame .ensures) (wrote-then (b .put-byte .ensures) (rw (a .before .before .denial-code .ensures) at (d .put-byte2 .ensures))) refl refl
 
 pub put-reject-unasked-spec : {M : Type 1} → statement M
-put-reject-unasked-spec =
-    tie.close
-    (tie.spec
-    denial-code-requires
-    put-frame-requires
-    put-byte-requires
-    put-byte-requires-2
-    same-length
-    returns)
+put-reject-unasked-spec = tie.close (tie.spec (λ c κs. search needs) (λ c κs. search needs) (λ c κs. search needs) (λ c κs. search needs) (λ c. search needs) returns)

@@ -1,7 +1,7 @@
 use borrow.Author.Needs.{needs}
 use mathlib.Core.Path.{refl}
 use Rattle.laws.specs.Splice.{wrote-then}
-use Rattle.rules.specs.Data.{Output, Reset}
+use Rattle.rules.specs.Data.{Reset}
 use Rattle.rules.specs.Output.{outputBytes}
 use Rattle.output.specs.Write.{written}
 use Rattle.output.proofs.put.put_reset.Statement.{statement}

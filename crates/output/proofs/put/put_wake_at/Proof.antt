@@ -1,27 +1,20 @@
 use borrow.Author.Needs.{needs}
+use mathlib.Core.Path.{refl}
+use Rattle.laws.specs.Splice.{wrote-then}
+use Rattle.rules.specs.Data.{Output}
+use mathlib.Core.Option.{some}
+use Rattle.rules.specs.Output.{outputBytes}
+use Rattle.output.specs.Write.{written}
 use Rattle.output.proofs.put.put_wake_at.Statement.{statement}
 use Rattle.output.proofs.put.put_wake_at.Tie as tie
-use Rattle.output.proofs.put.put_wake_at.Reads as reads
-use Rattle.output.proofs.put.put_wake_at.Lts as lts
-use Rattle.memory.proofs.write.put_be.Reads as put-be-reads
-use Rattle.memory.proofs.write.put_byte.Reads as put-byte-reads
-use Rattle.output.proofs.part.put_frame.Reads as put-frame-reads
-
-put-frame-requires : tie.Need-put-frame-requires
-put-frame-requires c κs = search needs
-
-put-byte-requires : tie.Need-put-byte-requires
-put-byte-requires c κs = search needs
-
-put-be-requires : tie.Need-put-be-requires
-put-be-requires c κs = search needs
-
-same-length : tie.Need-same-length
-same-length c = search needs
 
 returns : tie.Need-returns
-returns c = search needs
+unfolding outputBytes
+returns c =
+    let t = c .before .before in
+    let b = t .before .before .before .before in
+    let a = b .before .before .before .before in
+    written (Output.Wake (some _)) _ _ (a .put-frame .ensures) (wrote-then (b .put-byte .ensures) (t .put-be .ensures)) refl refl
 
 pub put-wake-at-spec : {M : Type 1} → statement M
-put-wake-at-spec =
-    tie.close (tie.spec put-frame-requires put-byte-requires put-be-requires same-length returns)
+put-wake-at-spec = tie.close (tie.spec (λ c κs. search needs) (λ c κs. search needs) (λ c κs. search needs) (λ c. search needs) returns)

@@ -1,22 +1,18 @@
 use borrow.Author.Needs.{needs}
+use mathlib.Core.Path.{refl}
+use Rattle.rules.specs.Data.{Output}
+use mathlib.Core.Option.{none}
+use Rattle.rules.specs.Output.{outputBytes}
+use Rattle.output.specs.Write.{written}
 use Rattle.output.proofs.put.put_wake_never.Statement.{statement}
 use Rattle.output.proofs.put.put_wake_never.Tie as tie
-use Rattle.output.proofs.put.put_wake_never.Reads as reads
-use Rattle.output.proofs.put.put_wake_never.Lts as lts
-use Rattle.memory.proofs.write.put_byte.Reads as put-byte-reads
-use Rattle.output.proofs.part.put_frame.Reads as put-frame-reads
-
-put-frame-requires : tie.Need-put-frame-requires
-put-frame-requires c κs = search needs
-
-put-byte-requires : tie.Need-put-byte-requires
-put-byte-requires c κs = search needs
-
-same-length : tie.Need-same-length
-same-length c = search needs
 
 returns : tie.Need-returns
-returns c = search needs
+unfolding outputBytes
+returns c =
+    let b = c .before .before in
+    let a = b .before .before .before .before in
+    written (Output.Wake none) _ _ (a .put-frame .ensures) (b .put-byte .ensures) refl refl
 
 pub put-wake-never-spec : {M : Type 1} → statement M
-put-wake-never-spec = tie.close (tie.spec put-frame-requires put-byte-requires same-length returns)
+put-wake-never-spec = tie.close (tie.spec (λ c κs. search needs) (λ c κs. search needs) (λ c. search needs) returns)
