@@ -85,6 +85,27 @@ pub wrote-more : {xs : Bytes} {at n : ℕ} {ys : Bytes} {r m : ℕ} {zs : Bytes}
     → Wrote xs at n (outputs s) ys r → Wrote ys r m (outputs t) zs q → Wrote xs at (n + m) (outputs (s ++ t)) zs q
 wrote-more s t a b = rw (outputs-append s t) (wrote-then a b)
 
+-- ---- the outputs s put at a place of xs, as many bytes as they take: what holds of a function that writes outputs, and of a loop
+pub record Puts (xs : Bytes) (at : ℕ) (s : List Output) (ys : Bytes) (r : ℕ) : Type 0 where
+  pub wrote : Wrote xs at (length (outputs s)) (outputs s) ys r
+
+exactly : {xs : Bytes} {at n : ℕ} {bs ys : Bytes} {r : ℕ} → Wrote xs at n bs ys r → Wrote xs at (length bs) bs ys r
+exactly a = rw (a .size) a
+
+pub puts-none : (xs : Bytes) (at : ℕ) → at ≤ length xs → Puts xs at [] xs at
+puts-none xs at h = record { wrote = exactly (wrote-none xs at h) }
+
+pub puts-one : {xs : Bytes} {at n : ℕ} {ys : Bytes} {r : ℕ} (o : Output) → Wrote xs at n (outputRecord o) ys r → Puts xs at (o ∷ []) ys r
+puts-one o a = record { wrote = exactly (wrote-one o a) }
+
+pub puts-then : {xs : Bytes} {at : ℕ} {s : List Output} {ys : Bytes} {r m : ℕ} {zs : Bytes} {q : ℕ} (o : Output)
+    → Puts xs at s ys r → Wrote ys r m (outputRecord o) zs q → Puts xs at (s ++ (o ∷ [])) zs q
+puts-then {s = s} o a b = record { wrote = exactly (wrote-outputs s o (a .wrote) b) }
+
+pub puts-more : {xs : Bytes} {at : ℕ} {s : List Output} {ys : Bytes} {r : ℕ} {t : List Output} {zs : Bytes} {q : ℕ}
+    → Puts xs at s ys r → Puts ys r t zs q → Puts xs at (s ++ t) zs q
+puts-more {s = s} {t = t} a b = record { wrote = exactly (wrote-more s t (a .wrote) (b .wrote)) }
+
 -- ---- what stands before was written last
 
 splice-front : (xs bs cs : Bytes) (at : ℕ) → at + length bs + length cs ≤ length xs → splice (splice xs (at + length bs) cs) at bs ≡ splice xs at (bs ++ cs)

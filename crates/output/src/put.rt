@@ -118,11 +118,11 @@ pub fn put_install(
     let code = build_code(build);
     let len = pair.addr.len;
     let a = put_frame(out, at, 35 + len, 5);
-    let b = put_node(out, a, peer);
-    let c = put_be(out, b, link.0, 8);
-    let d = put_pair(out, c, pair);
-    let e = put_byte(out, d, code);
-    let f = put_flag(out, e, initiator);
+    let x = put_node(out, a, peer);
+    let y = put_be(out, x, link.0, 8);
+    let z = put_pair(out, y, pair);
+    let b = put_byte(out, z, code);
+    let f = put_flag(out, b, initiator);
     put_be(out, f, lease as u64, 4)
 }
 
