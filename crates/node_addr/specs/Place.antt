@@ -20,7 +20,7 @@ use Rattle.laws.specs.Round.{more-digits}
 use Rattle.laws.specs.Part.{part-zeros}
 use Rattle.laws.specs.Cell.{num, byteOf, textOf, Text, text-same, num-same}
 use Rattle.node_addr.specs.View.{viewPair, viewMessage, FitPair, FitMessage}
-use Rattle.node_addr.specs.Words.{part-of, byte-here, pair-unlike, pair-like, same-unlike, same-kept}
+use Rattle.node_addr.specs.Alike.{part-of, byte-here, pair-unlike, pair-like, same-unlike, same-kept}
 use Rattle.node_addr.specs.declared.Pair as pair
 use Rattle.node_addr.specs.declared.Message as message
 

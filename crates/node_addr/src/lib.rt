@@ -1,7 +1,7 @@
 // Node addresses, transport addresses, digests and messages, by value.
 pub mod place;
+pub mod run;
 pub mod same;
-pub mod words;
 
 ghost use mathlib.Core.Path.{_≡_};
 ghost use Rattle.node_addr.specs.View.{blankNode, blankDigest, blankAddr, blankPair, blankMessage};
@@ -52,9 +52,10 @@ pub fn blank_digest() -> Digest
 pub fn blank_addr() -> Addr
     ensures { λ r. ⌜ r ≡ blankAddr ⌝ }
 {
+    let bytes = [0u8; 48];
     Addr {
         len: 0,
-        bytes: [0u8; 48],
+        bytes: bytes,
     }
 }
 

@@ -5,8 +5,10 @@ use crate::Message;
 use crate::NodeAddr;
 use crate::Pair;
 use crate::TransportId;
-use crate::words::before_words;
-use crate::words::same_words;
+use crate::run::same_32;
+use crate::run::same_48;
+use memory::compare::before_run;
+use memory::compare::same_run;
 use memory::read::get_be;
 use memory::read::get_byte;
 use memory::read::take_16;
@@ -50,7 +52,7 @@ pub fn node_here(s: &[u8], at: usize, n: NodeAddr) -> bool
     ensures { λ r. ⌜ r ≡ same (n .0) (take 16 (drop at (now (s .entry)))) ⌝ }
 {
     let b = n.0;
-    same_words(&b, 0, s, at, 2)
+    same_run(&b, 0, s, at, 16)
 }
 
 // Whether a node address comes before the one at a place.
@@ -59,7 +61,7 @@ pub fn before_here(s: &[u8], at: usize, n: NodeAddr) -> bool
     ensures { λ r. ⌜ r ≡ before (n .0) (take 16 (drop at (now (s .entry)))) ⌝ }
 {
     let b = n.0;
-    before_words(&b, 0, s, at)
+    before_run(&b, 0, s, at)
 }
 
 pub fn load_digest(s: &[u8], at: usize) -> Digest
@@ -83,7 +85,7 @@ pub fn digest_here(s: &[u8], at: usize, d: Digest) -> bool
     ensures { λ r. ⌜ r ≡ same (d .0) (take 32 (drop at (now (s .entry)))) ⌝ }
 {
     let b = d.0;
-    same_words(&b, 0, s, at, 4)
+    same_32(&b, 0, s, at)
 }
 
 pub fn load_pair(s: &[u8], at: usize) -> Pair
@@ -129,7 +131,7 @@ pub fn pair_here(s: &[u8], at: usize, p: Pair) -> bool
         return false;
     }
     let b = p.addr.bytes;
-    same_words(&b, 0, s, at + 5, 6)
+    same_48(&b, 0, s, at + 5)
 }
 
 pub fn load_message(s: &[u8], at: usize) -> Message
@@ -166,5 +168,5 @@ pub fn message_here(s: &[u8], at: usize, m: Message) -> bool
         return false;
     }
     let b = m.bytes;
-    same_words(&b, 0, s, at + 1, 16)
+    same_run(&b, 0, s, at + 1, 128)
 }

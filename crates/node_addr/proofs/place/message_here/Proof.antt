@@ -1,3 +1,4 @@
+-- `node_addr::place::message_here` meets its contract.
 use Rattle.node_addr.specs.Place.{message-longer, message-beside}
 use borrow.Author.Needs.{needs}
 use Rattle.node_addr.proofs.place.message_here.Statement.{statement}
@@ -12,7 +13,7 @@ returns-2 : tie.Need-returns-2
 returns-2 c =
     let d = c .before .before .before in
     let b = d .before .before .before .before in
-    message-beside (b .args .s .now) (b .args .at) (b .args .m) (b .pre .0) (b .pre .1 .1) (d .before .before .get-byte .ensures) (search needs) (c .same-words .ensures)
+    message-beside (b .args .s .now) (b .args .at) (b .args .m) (b .pre .0) (b .pre .1 .1) (d .before .before .get-byte .ensures) (search needs) (c .same-run .ensures)
 
 pub message-here-spec : {M : Type 1} → statement M
 message-here-spec =
