@@ -1,0 +1,33 @@
+use Prim.Native.Nat.{_-_}
+use Rattle.laws.specs.Beside.{Beside, comparing}
+use Rattle.rules.specs.Std.{before}
+use lib.ListN.{take, drop}
+use Rattle.memory.proofs.compare.before_run.Statement.{statement}
+use Rattle.memory.proofs.compare.before_run.Tie as tie
+
+abbrev Inv-loop : tie.InvT-loop
+Inv-loop s at t from n i₀ i = Beside (before (take n (drop at s)) (take n (drop from t))) before n s at t from i
+
+abbrev μ-loop : tie.MeasureT-loop
+μ-loop s at t from n i₀ i = n - i
+
+pub before-run-spec : {M : Type 1} → statement M
+before-run-spec =
+    tie.close
+    (tie.spec
+    Inv-loop
+    μ-loop
+    (λ c. search comparing)
+    (λ c. search comparing)
+    (λ c. search comparing)
+    (λ c. search comparing)
+    (λ c. search comparing)
+    (λ c. search comparing)
+    (λ c. search comparing)
+    (λ c. search comparing)
+    (λ c. search comparing)
+    (λ c. search comparing)
+    (λ c. search comparing)
+    (λ c. search comparing)
+    (λ c. search comparing)
+    (λ c. search comparing))
