@@ -15,9 +15,12 @@ use mir.Val.{Fits}
 use Rattle.rules.specs.Base.{Bytes, All, same, if_then_else_}
 use Rattle.rules.specs.Bounds.{IsByte}
 use Rattle.rules.specs.Std.{before}
+use Rattle.rules.specs.Data.{Pair, samePair}
 use Rattle.rules.specs.Field.{more}
-use Rattle.laws.specs.Shift.{all-take, all-drop}
-use Rattle.laws.specs.Beside.{same-yes, same-no}
+use Rattle.laws.specs.Shift.{Kept, all-take, all-drop}
+use Rattle.laws.specs.Buffer.{Any}
+use Rattle.laws.specs.Beside.{same-yes, same-no, same-true, same-apart}
+use Rattle.laws.specs.Buffer.{kept-length}
 use Rattle.laws.specs.Cell.{num, num-same}
 
 -- that each byte is below 256, of a list whose every element is a u8
@@ -55,21 +58,21 @@ module _ {n : ℕ} {s : Bytes} {at : ℕ} {t : Bytes} {from i : ℕ} (a : Abreas
       → false ≡ same (take (n * 8) (drop at s)) (take (n * 8) (drop from t))
   abreast-stop p e f d =
       sym (same-no (take (n * 8) (drop at s)) (take (n * 8) (drop from t)) λ q. d (
-        e
-        ∙ ap (more 0) (sym (word-of n s at i p) ∙ ap (λ (u : Bytes). take 8 (drop (i * 8) u)) q ∙ word-of n t from i p)
-        ∙ sym f
+      e
+      ∙ ap (more 0) (sym (word-of n s at i p) ∙ ap (λ (u : Bytes). take 8 (drop (i * 8) u)) q ∙ word-of n t from i p)
+      ∙ sym f
       ))
 
   pub abreast-on : {v w : ℕ} → i < n → v ≡ more 0 (take 8 (drop (at + i * 8) s)) → w ≡ more 0 (take 8 (drop (from + i * 8) t)) → v ≡ w
       → ((j : ℕ) → Fits w8 (getD s j 0)) → ((j : ℕ) → Fits w8 (getD t j 0)) → Abreast n s at t from (i + 1)
   abreast-on p e f d x y =
       let k : take 8 (drop (at + i * 8) s) ≡ take 8 (drop (from + i * 8) t) = num-same
-        (take 8 (drop (at + i * 8) s))
-        (take 8 (drop (from + i * 8) t))
-        (all-take IsByte 8 (drop (at + i * 8) s) (all-drop IsByte (at + i * 8) s (all-bytes s x)))
-        (all-take IsByte 8 (drop (from + i * 8) t) (all-drop IsByte (from + i * 8) t (all-bytes t y)))
-        (simp (length-take, length-drop) (omega arith))
-        (sym e ∙ d ∙ f) in
+      (take 8 (drop (at + i * 8) s))
+      (take 8 (drop (from + i * 8) t))
+      (all-take IsByte 8 (drop (at + i * 8) s) (all-drop IsByte (at + i * 8) s (all-bytes s x)))
+      (all-take IsByte 8 (drop (from + i * 8) t) (all-drop IsByte (from + i * 8) t (all-bytes t y)))
+      (simp (length-take, length-drop) (omega arith))
+      (sym e ∙ d ∙ f) in
       record { within = omega arith; room = a .room; room′ = a .room′; past = run-on s at i ∙ rw (a .past, k) (sym (run-on t from i)) }
 
   pub abreast-end : n ≤ i → true ≡ same (take (n * 8) (drop at s)) (take (n * 8) (drop from t))
@@ -78,6 +81,35 @@ module _ {n : ℕ} {s : Bytes} {at : ℕ} {t : Bytes} {from i : ℕ} (a : Abreas
       sym (same-yes (take (n * 8) (drop at s)) (take (n * 8) (drop from t)) (rw e at (a .past)))
 
 pub ruleset wording = (needs, abreast-start, abreast-stop, abreast-end)
+
+same-differ : (x y : Bytes) → same x y ≡ false → x ≡ y → ⊥
+same-differ x y e q = let z : _≡_ {A = Bool} true false = sym (same-yes x y q) ∙ e in let u : _≡_ {A = ℕ} 0 1 = cc in omega arith
+
+-- arrays taken whole
+pub same-whole : {r : Bool} (n : ℕ) (x y : Bytes) → length x ≡ n → length y ≡ n → r ≡ same (take n x) (take n y) → r ≡ same x y
+same-whole n x y h k e = e ∙ rw (take-all n x (omega arith), take-all n y (omega arith))
+
+pub before-whole : {r : Bool} (n : ℕ) (x y : Bytes) → length x ≡ n → length y ≡ n → r ≡ before (take n x) (take n y) → r ≡ before x y
+before-whole n x y h k e = e ∙ rw (take-all n x (omega arith), take-all n y (omega arith))
+
+-- buffers with as much in use, zeros behind; and with more or less
+pub same-kept : {r : Bool} {cap n m : ℕ} {x y : Bytes} → Kept Any 0 cap n x → Kept Any 0 cap m y → n ≡ m → r ≡ same (take cap x) (take cap y) → r ≡ same (take n x) (take m y)
+same-kept {cap = cap} {n} {m} {x} {y} a b h e = same-whole cap x y (a .size) (b .size) e ∙ rw h (go (same x y) refl)
+  where
+    go : (k : Bool) → same x y ≡ k → k ≡ same (take m x) (take m y)
+    go true q = sym (same-yes (take m x) (take m y) (ap (λ (u : Bytes). take m u) (same-true x y q)))
+    go false q = sym (same-no (take m x) (take m y) (λ f. same-differ x y q (
+        sym (take-append-drop m x) ∙ rw (f, rw h at (a .rest), ← b .rest) (take-append-drop m y))))
+
+pub same-unlike : {cap n m : ℕ} {x y : Bytes} → Kept Any 0 cap n x → Kept Any 0 cap m y → (n ≡ m → ⊥) → false ≡ same (take n x) (take m y)
+same-unlike {cap} {n} {m} {x} {y} a b h = sym (same-apart (take n x) (take m y) (λ e. h (sym (kept-length a) ∙ e ∙ kept-length b)))
+
+-- pairs: the transports, and then the addresses
+pub pair-unlike : (p q : Pair) → (p .transport ≡ q .transport → ⊥) → false ≡ samePair p q
+pair-unlike p q d = rw (ne-eqb (p .transport) (q .transport) d)
+
+pub pair-like : {r : Bool} (p q : Pair) → p .transport ≡ q .transport → r ≡ same (p .addr) (q .addr) → r ≡ samePair p q
+pair-like p q e h = h ∙ sym (rw (eq-eqb (p .transport) (q .transport) e))
 
 -- ---- order
 
