@@ -4,8 +4,9 @@ use mathlib.Core.Path.{_≡_, refl, sym, ap, _∙_}
 use mathlib.Core.List.{List, [], _∷_, _++_, append-nil}
 use native.Mathlib.Nat.{not-suc-le-zero, le-of-suc-le-suc, zero-mul, suc-mul, add-zero, add-comm, add-mul, mul-le-mul-right, zero-add}
 use native.Mathlib.Omega.{arith}
-use lib.Seq.{take-at, drop-at, drop-drop, take-append-le, drop-append-le, length-take-le}
-use lib.ListN.{length, take, drop, getD, set, replicate, length-drop, take-append-drop, drop-of-length-le}
+use lib.Seq.{take-at, drop-at, drop-drop, take-append-le, drop-append-le, length-take-le, take-add}
+use lib.ListN.{length, take, drop, getD, set, replicate, length-drop, length-replicate, take-append-drop, drop-of-length-le}
+use Rattle.rules.specs.Base.{All}
 use Rattle.laws.specs.Splice.{splice, length-splice, set-splice}
 use Rattle.laws.specs.Part.{splice-left, splice-right, take-zeros, drop-zeros}
 
@@ -142,9 +143,45 @@ chunks-whole w n s i bs p h e =
 pub chunks-set : (w n : ℕ) (s : List ℕ) (a v : ℕ) → n * w ≤ a → a < length s → chunks w n (set s a v) ≡ chunks w n s
 chunks-set w n s a v h k = rw (set-splice s a v k) (chunks-past w n s a (v ∷ []) h (omega arith))
 
-pub chunks-zeros : (w n : ℕ) → chunks w n (replicate (n * w + 1) 0) ≡ replicate n (replicate w 0)
+pub chunks-zeros : (w n k : ℕ) → chunks w n (replicate (n * w + k) 0) ≡ replicate n (replicate w 0)
 unfolding chunks
-chunks-zeros w zero = refl
-chunks-zeros w (suc n) =
-    let e : suc n * w + 1 ≡ (n * w + 1) + w = rw suc-mul (omega arith) in
-    rw (e, take-zeros w ((n * w + 1) + w) (omega arith), drop-zeros w (n * w + 1), chunks-zeros w n)
+chunks-zeros w zero k = refl
+chunks-zeros w (suc n) k =
+    let e : suc n * w + k ≡ (n * w + k) + w = rw suc-mul (omega arith) in
+    rw (e, take-zeros w ((n * w + k) + w) (omega arith), drop-zeros w (n * w + k), chunks-zeros w n k)
+
+-- all in a row
+unfoldable pub joined : List (List ℕ) → List ℕ
+joined [] = []
+joined (b ∷ bs) = b ++ joined bs
+
+pub chunks-joined : (w n : ℕ) (s : List ℕ) → n * w ≤ length s → joined (chunks w n s) ≡ take (n * w) s
+unfolding chunks joined
+chunks-joined w zero s h = rw zero-mul
+chunks-joined w (suc n) s h =
+    let e : suc n * w ≡ w + n * w = rw suc-mul (omega arith) in
+    rw (e, take-add w (n * w) s) (ap (λ (t : List ℕ). take w s ++ t) (chunks-joined w n (drop w s) (rw length-drop (omega arith))))
+
+pub chunks-size : (w n : ℕ) (s : List ℕ) → n * w ≤ length s → All (λ (c : List ℕ). length c ≡ w) (chunks w n s)
+unfolding chunks
+chunks-size w zero s h = tt
+chunks-size w (suc n) s h =
+    let e : suc n * w ≡ n * w + w = suc-mul n w in
+    (length-take-le w s (omega arith), chunks-size w n (drop w s) (rw length-drop (omega arith)))
+
+-- one chunk put over another
+pub chunk-moved : (w n : ℕ) (s : List ℕ) (i j : ℕ) (d : List ℕ) → i < n → j < n → n * w ≤ length s
+    → chunks w n (splice s (i * w) (take w (drop (j * w) s))) ≡ set (chunks w n s) i (getD (chunks w n s) j d)
+chunk-moved w n s i j d p q h =
+    chunks-whole w n s i (take w (drop (j * w) s)) p h (ap length (sym (chunk-at w n s j d q)) ∙ chunk-size w n s j d q h)
+    ∙ ap (λ (c : List ℕ). set (chunks w n s) i c) (sym (chunk-at w n s j d q))
+
+-- chunks i to j cleared
+pub chunks-cleared : (w n : ℕ) (s : List ℕ) (i j : ℕ) → i ≤ j → j ≤ n → n * w ≤ length s
+    → chunks w n (splice s (i * w) (replicate ((j - i) * w) 0)) ≡ take i (chunks w n s) ++ (replicate (j - i) (replicate w 0) ++ drop j (chunks w n s))
+chunks-cleared w n s i j p q h =
+    let e : i + (j - i) ≡ j = omega arith in
+    chunks-run w n s i (j - i) (replicate ((j - i) * w) 0) (omega arith) h (length-replicate ((j - i) * w) 0) ∙ rw (blank, e)
+  where
+    blank : chunks w (j - i) (replicate ((j - i) * w) 0) ≡ replicate (j - i) (replicate w 0)
+    blank = ap (λ (k : ℕ). chunks w (j - i) (replicate {A = ℕ} k 0)) (sym (add-zero ((j - i) * w))) ∙ chunks-zeros w (j - i) 0

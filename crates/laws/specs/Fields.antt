@@ -8,7 +8,7 @@ use lib.Seq.{take-at, drop-at, drop-drop, length-take-le}
 use lib.ListN.{length, take, drop, getD, set, length-append, length-drop, take-append-drop}
 use Rattle.laws.specs.Splice.{splice}
 use Rattle.laws.specs.Part.{part-append, part-before, part-after, part-same}
-use Rattle.laws.specs.Chunk.{chunks, chunk-at}
+use Rattle.laws.specs.Chunk.{joined, chunks, chunk-at}
 
 -- a field of a chunk, read where it stands
 pub field-at : (w cap : ℕ) (s : List ℕ) (i : ℕ) (d : List ℕ) (o n : ℕ) → i < cap → o + n ≤ w → cap * w ≤ length s
@@ -61,11 +61,6 @@ cuts-at w cap s i d o [] p q h = refl
 cuts-at w cap s i d o (v ∷ ws) p q h =
     let z : 0 + o ≡ o = omega arith in
     rw (z, field-at w cap s i d o v p (omega arith) h, cuts-at w cap s i d (o + v) ws p (omega arith) h)
-
--- all fields in a row
-unfoldable pub joined : List (List ℕ) → List ℕ
-joined [] = []
-joined (b ∷ bs) = b ++ joined bs
 
 pub cuts-joined : (fs : List (List ℕ)) → cuts 0 0 (map length fs) (joined fs) ≡ fs
 unfolding joined

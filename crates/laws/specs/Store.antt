@@ -1,17 +1,19 @@
 -- A map in a region: cap chunks of width w, and then the count. What removal, insertion, push and a change of bytes do to what it shows.
 use Prim.Native.Nat.{ℕ, zero, suc, _+_, _-_, _*_, _≤_, _<_}
-use mathlib.Core.Path.{_≡_, refl, sym, ap, _∙_}
+use mathlib.Core.Path.{_≡_, refl, sym, ap, ap₂, _∙_}
 use mathlib.Core.List.{List, [], _∷_, _++_, map, append-assoc}
 use native.Mathlib.Nat.{not-suc-le-zero, suc-mul, add-mul, mul-le-mul-right}
 use native.Mathlib.Numerals.{add-one}
 use native.Mathlib.Omega.{arith}
 use borrow.Author.Needs.{needs}
-use lib.Seq.{drop-at, take-append-le, take-append-add, length-take-le, set-split, take-take}
-use lib.ListN.{length, take, drop, getD, set, replicate, length-append, length-drop, length-set, length-replicate, getD-replicate}
-use Rattle.laws.specs.Shift.{Kept, all-replicate, erase, insert, blend, gone, length-insert, length-blend, drop-blend, take-blend, take-insert, map-insert, rest-more, all-insert, all-blend, pushed, all-at, changed}
+use lib.Seq.{drop-at, take-append-le, take-append-add, length-take-le, set-split, take-take, drop-cons}
+use lib.ListN.{length, take, drop, getD, set, replicate, length-append, length-drop, length-set, length-replicate, getD-replicate, length-map, length-take, drop-of-length-le, take-append-drop}
+use Rattle.laws.specs.Shift.{Kept, all-replicate, erase, insert, blend, gone, length-insert, length-blend, drop-blend, take-blend, take-insert, map-insert, rest-more, all-insert, all-blend, pushed, all-at, all-take, changed}
+use Rattle.rules.specs.Base.{All}
+use Rattle.laws.specs.Buffer.{kept-same}
 use Rattle.laws.specs.Splice.{splice, length-splice, Wrote}
 use Rattle.laws.specs.Part.{getD-past, getD-here}
-use Rattle.laws.specs.Chunk.{chunks, length-chunks, chunk-size, chunks-splice, chunks-run, chunks-part, chunks-whole, chunks-set, chunks-zeros}
+use Rattle.laws.specs.Chunk.{chunks, length-chunks, chunk-size, chunks-splice, chunks-run, chunks-part, chunks-whole, chunks-set, chunks-zeros, chunks-joined, chunks-size, joined}
 
 -- ---- a store: cap chunks of width w, and then a byte that says how many are in use; the others are zeros
 pub record Store (P : List ℕ → Type 0) (w cap : ℕ) (s : List ℕ) : Type 0 where
@@ -270,6 +272,54 @@ store-zeros P w cap pb =
     record {
       size = length-replicate (cap * w + 1) 0;
       kept =
-          rw (z, chunks-zeros w cap)
+          rw (z, chunks-zeros w cap 1)
           (record { small = omega arith; size = length-replicate cap (replicate w 0); rest = rw q; each = all-replicate P cap (replicate w 0) pb });
     }
+
+-- ---- equal contents are equal bytes
+all-both : {A : Type 0} (P Q : A → Type 0) (xs : List A) → All P xs → All Q xs → All (λ (x : A). P x × Q x) xs
+all-both P Q [] a b = tt
+all-both P Q (x ∷ xs) a b = ((a .0, b .0), all-both P Q xs (a .1) (b .1))
+
+-- a map that tells elements apart tells lists of them apart
+pub map-same : {A B : Type 0} (f : A → B) (Q : A → Type 0) → ((x y : A) → Q x → Q y → f x ≡ f y → x ≡ y)
+    → (xs ys : List A) → All Q xs → All Q ys → map f xs ≡ map f ys → xs ≡ ys
+map-same f Q apart [] [] a b e = refl
+map-same f Q apart [] (y ∷ ys) a b e = let z : _≡_ {A = ℕ} 0 1 = cc in absurd (omega arith)
+map-same f Q apart (x ∷ xs) [] a b e = let z : _≡_ {A = ℕ} 0 1 = cc in absurd (omega arith)
+map-same {A} {B} f Q apart (x ∷ xs) (y ∷ ys) a b e =
+    let h : f x ≡ f y = cc in
+    let r : map f xs ≡ map f ys = cc in
+    ap₂ (λ (u : A) (us : List A). u ∷ us) (apart x y (a .0) (b .0) h) (map-same f Q apart xs ys (a .1) (b .1) r)
+
+-- two regions with the same chunks and the same last byte
+region-same : (w cap : ℕ) (s u : List ℕ) → length s ≡ cap * w + 1 → length u ≡ cap * w + 1 → chunks w cap s ≡ chunks w cap u → getD s (cap * w) 0 ≡ getD u (cap * w) 0 → s ≡ u
+region-same w cap s u h k e q = sym (back s h) ∙ ap₂ (λ (cs : List (List ℕ)) (n : ℕ). joined cs ++ (n ∷ [])) e q ∙ back u k
+  where
+    back : (s : List ℕ) → length s ≡ cap * w + 1 → joined (chunks w cap s) ++ (getD s (cap * w) 0 ∷ []) ≡ s
+    back s h =
+        let z : drop (suc (cap * w)) s ≡ [] = drop-of-length-le s {i = suc (cap * w)} (omega arith) in
+        rw (chunks-joined w cap s (omega arith))
+        (ap (λ (t : List ℕ). take (cap * w) s ++ t) (sym (drop-cons s (cap * w) 0 (omega arith) ∙ rw z)) ∙ take-append-drop (cap * w) s)
+
+pub same-view : {B : Type 0} (f : List ℕ → B) {P : List ℕ → Type 0} {w cap : ℕ} {s u : List ℕ} → Store P w cap s → Store P w cap u
+    → ((c d : List ℕ) → P c × (length c ≡ w) → P d × (length d ≡ w) → f c ≡ f d → c ≡ d) → entries f w cap s ≡ entries f w cap u → s ≡ u
+same-view {B} f {P} {w} {cap} {s} {u} r q apart e =
+    region-same w cap s u (r .size) (q .size) cs count
+  where
+    shown-count : (s : List ℕ) → Store P w cap s → length (entries f w cap s) ≡ getD s (cap * w) 0
+    shown-count s r =
+        let l : length (chunks w cap s) ≡ cap = length-chunks w cap s in
+        simp (length-map, length-take) (omega arith)
+    count : getD s (cap * w) 0 ≡ getD u (cap * w) 0
+    count = sym (shown-count s r) ∙ ap length e ∙ shown-count u q
+    held : (s : List ℕ) → Store P w cap s → All (λ (c : List ℕ). P c × (length c ≡ w)) (chunks w cap s)
+    held s r = all-both P (λ c. length c ≡ w) (chunks w cap s) (r .kept .each) (chunks-size w cap s (omega arith))
+    front : take (getD s (cap * w) 0) (chunks w cap s) ≡ take (getD s (cap * w) 0) (chunks w cap u)
+    front =
+        map-same f (λ c. P c × (length c ≡ w)) apart (take (getD s (cap * w) 0) (chunks w cap s)) (take (getD s (cap * w) 0) (chunks w cap u))
+        (all-take (λ c. P c × (length c ≡ w)) (getD s (cap * w) 0) (chunks w cap s) (held s r))
+        (all-take (λ c. P c × (length c ≡ w)) (getD s (cap * w) 0) (chunks w cap u) (held u q))
+        (e ∙ rw count)
+    cs : chunks w cap s ≡ chunks w cap u
+    cs = kept-same (r .kept) (rw (← count) at (q .kept)) front

@@ -1,12 +1,13 @@
 // Runs of bytes compared where they stand: whether they are the same, and their order.
+use crate::read::get_8;
 ghost use mathlib.Core.Path.{_≡_};
 ghost use Prim.Native.Nat.{_+_, _≤_};
 ghost use lib.ListN.{length, take, drop};
 ghost use Rattle.rules.specs.Base.{same};
 ghost use Rattle.rules.specs.Std.{before};
 
-// Whether n bytes of two slices are the same.
-pub fn same_run(s: &[u8], at: usize, t: &[u8], from: usize, n: usize) -> bool
+// Whether n bytes of two slices are the same, byte by byte.
+fn same_rest(s: &[u8], at: usize, t: &[u8], from: usize, n: usize) -> bool
     requires { ⌜ at + n ≤ length (now s) ⌝ }
     requires { ⌜ from + n ≤ length (now t) ⌝ }
     ensures { λ r. ⌜ r ≡ same (take n (drop at (now (s .entry)))) (take n (drop from (now (t .entry)))) ⌝ }
@@ -21,20 +22,36 @@ pub fn same_run(s: &[u8], at: usize, t: &[u8], from: usize, n: usize) -> bool
     true
 }
 
-// Whether n bytes of a slice come before n bytes of another: the first that differ decide.
-pub fn before_run(s: &[u8], at: usize, t: &[u8], from: usize, n: usize) -> bool
+// Whether n bytes of two slices are the same: eight at a time, and then the rest.
+pub fn same_run(s: &[u8], at: usize, t: &[u8], from: usize, n: usize) -> bool
     requires { ⌜ at + n ≤ length (now s) ⌝ }
     requires { ⌜ from + n ≤ length (now t) ⌝ }
-    ensures { λ r. ⌜ r ≡ before (take n (drop at (now (s .entry)))) (take n (drop from (now (t .entry)))) ⌝ }
+    ensures { λ r. ⌜ r ≡ same (take n (drop at (now (s .entry)))) (take n (drop from (now (t .entry)))) ⌝ }
 {
     let mut i = 0;
-    while i < n {
-        if s[at + i] != t[from + i] {
-            return s[at + i] < t[from + i];
+    while 8 <= n - i {
+        if get_8(s, at + i) != get_8(t, from + i) {
+            return false;
         }
-        i += 1;
+        i += 8;
     }
-    false
+    same_rest(s, at + i, t, from + i, n - i)
+}
+
+// Whether 16 bytes of a slice come before 16 bytes of another: the first that differ decide.
+pub fn before_run(s: &[u8], at: usize, t: &[u8], from: usize) -> bool
+    requires { ⌜ at + 16 ≤ length (now s) ⌝ }
+    requires { ⌜ from + 16 ≤ length (now t) ⌝ }
+    ensures { λ r. ⌜ r ≡ before (take 16 (drop at (now (s .entry)))) (take 16 (drop from (now (t .entry)))) ⌝ }
+{
+    let a = get_8(s, at);
+    let b = get_8(t, from);
+    if a != b {
+        return a < b;
+    }
+    let c = get_8(s, at + 8);
+    let d = get_8(t, from + 8);
+    c < d
 }
 
 // Whether two runs of one slice are the same.
@@ -85,7 +102,7 @@ pub fn before_16(key: [u8; 16], s: &[u8], at: usize) -> bool
     requires { ⌜ at + 16 ≤ length (now s) ⌝ }
     ensures { λ r. ⌜ r ≡ before key (take 16 (drop at (now (s .entry)))) ⌝ }
 {
-    before_run(&key, 0, s, at, 16)
+    before_run(&key, 0, s, at)
 }
 
 // Whether a key of 16 bytes comes after the one at a place.
@@ -93,5 +110,5 @@ pub fn after_16(key: [u8; 16], s: &[u8], at: usize) -> bool
     requires { ⌜ at + 16 ≤ length (now s) ⌝ }
     ensures { λ r. ⌜ r ≡ before (take 16 (drop at (now (s .entry)))) key ⌝ }
 {
-    before_run(s, at, &key, 0, 16)
+    before_run(s, at, &key, 0)
 }

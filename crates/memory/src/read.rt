@@ -13,8 +13,45 @@ pub fn get_byte(s: &[u8], at: usize) -> u8
     s[at]
 }
 
-// The number of n bytes, the most significant first.
-pub fn get_be(s: &[u8], at: usize, n: usize) -> u64
+fn wide(x: u8) -> u64
+    ensures { λ r. ⌜ r ≡ x ⌝ }
+    ensures { λ r. ⌜ r < 256 ⌝ }
+{
+    x as u64
+}
+
+// The number of four bytes, the most significant first: one load.
+fn get_4(s: &[u8], at: usize) -> u64
+    requires { ⌜ at + 4 ≤ length (now s) ⌝ }
+    ensures { λ r. ⌜ r ≡ more 0 (take 4 (drop at (now (s .entry)))) ⌝ }
+    ensures { λ r. ⌜ r < 256 ^ 4 ⌝ }
+{
+    let a = wide(s[at]);
+    let b = wide(s[at + 1]);
+    let c = wide(s[at + 2]);
+    let d = wide(s[at + 3]);
+    ((a * 256 + b) * 256 + c) * 256 + d
+}
+
+// The number of eight bytes: one load.
+pub fn get_8(s: &[u8], at: usize) -> u64
+    requires { ⌜ at + 8 ≤ length (now s) ⌝ }
+    ensures { λ r. ⌜ r ≡ more 0 (take 8 (drop at (now (s .entry)))) ⌝ }
+    ensures { λ r. ⌜ r < 256 ^ 8 ⌝ }
+{
+    let a = wide(s[at]);
+    let b = wide(s[at + 1]);
+    let c = wide(s[at + 2]);
+    let d = wide(s[at + 3]);
+    let e = wide(s[at + 4]);
+    let f = wide(s[at + 5]);
+    let g = wide(s[at + 6]);
+    let h = wide(s[at + 7]);
+    ((((((a * 256 + b) * 256 + c) * 256 + d) * 256 + e) * 256 + f) * 256 + g) * 256 + h
+}
+
+// The number of n bytes, byte by byte.
+fn get_few(s: &[u8], at: usize, n: usize) -> u64
     requires { ⌜ n ≤ 8 ⌝ }
     requires { ⌜ at + n ≤ length (now s) ⌝ }
     ensures { λ r. ⌜ r ≡ more 0 (take n (drop at (now (s .entry)))) ⌝ }
@@ -27,6 +64,22 @@ pub fn get_be(s: &[u8], at: usize, n: usize) -> u64
         i += 1;
     }
     v
+}
+
+// The number of n bytes, the most significant first.
+pub fn get_be(s: &[u8], at: usize, n: usize) -> u64
+    requires { ⌜ n ≤ 8 ⌝ }
+    requires { ⌜ at + n ≤ length (now s) ⌝ }
+    ensures { λ r. ⌜ r ≡ more 0 (take n (drop at (now (s .entry)))) ⌝ }
+    ensures { λ r. ⌜ r < 256 ^ n ⌝ }
+{
+    if n == 8 {
+        return get_8(s, at);
+    }
+    if n == 4 {
+        return get_4(s, at);
+    }
+    get_few(s, at, n)
 }
 
 // The 16 bytes at a place.

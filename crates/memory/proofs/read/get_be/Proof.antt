@@ -1,27 +1,13 @@
-use Prim.Native.Nat.{_-_}
-use Rattle.laws.specs.Parse.{Counting, counting}
+use borrow.Author.Needs.{needs}
 use Rattle.memory.proofs.read.get_be.Statement.{statement}
 use Rattle.memory.proofs.read.get_be.Tie as tie
 
-abbrev Inv-loop : tie.InvT-loop
-Inv-loop s at n v₀ i₀ v i = Counting s at n i v
+returns : tie.Need-returns
+returns c = rw (c .before .if1 .taken) (c .get-8 .ensures)
 
-abbrev μ-loop : tie.MeasureT-loop
-μ-loop s at n v₀ i₀ v i = n - i
+returns-2 : tie.Need-returns-2
+returns-2 c = rw (c .before .if2 .taken) (c .get-4 .ensures)
 
 pub get-be-spec : {M : Type 1} → statement M
 get-be-spec =
-    tie.close
-    (tie.spec
-    Inv-loop
-    μ-loop
-    (λ c. search counting)
-    (λ c. search counting)
-    (λ c. search counting)
-    (λ c. search counting)
-    (λ c. search (counting, c .shared-slice-known .given))
-    (λ c. search (counting, c .shared-slice-known .given))
-    (λ c. search counting)
-    (λ c. search counting)
-    (λ c. search (counting, c .shared-slice-known .given))
-    (λ c. search counting))
+    tie.close (tie.spec (λ c κs. search needs) returns (λ c κs. search needs) returns-2 (λ c κs. search needs) (λ c. search needs))
