@@ -8,9 +8,9 @@ use native.Mathlib.Numerals.{add-one}
 use native.Mathlib.Omega.{arith}
 use borrow.Author.Needs.{needs}
 use lib.Seq.{drop-drop, take-suc, take-suc-set, take-set-le, drop-set-lt, getD-drop, drop-cons, length-take-le, set-at, take-at, drop-at}
-use lib.ListN.{length, take, drop, getD, set, replicate, length-append, length-take, length-drop, length-set, length-replicate, take-append-drop}
+use lib.ListN.{length, take, drop, getD, set, replicate, length-append, length-take, length-set, length-replicate, take-append-drop}
 use Rattle.rules.specs.Base.{if_then_else_, keep, one, All}
-use Rattle.laws.specs.Shift.{Kept, all-take, all-drop, all-append, all-replicate}
+use Rattle.laws.specs.Shift.{Kept, all-take, all-append, all-replicate}
 
 keep-append : {A : Type 0} (t : A → Bool) (xs ys : List A) → keep t (xs ++ ys) ≡ keep t xs ++ keep t ys
 keep-append t [] ys = refl

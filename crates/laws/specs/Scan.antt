@@ -63,6 +63,13 @@ scan-below t k (x ∷ xs) i e = go (t x) e (scan-below t (suc k) xs i)
 pub scan-within : {A B : Type 0} (t : B → Bool) (f : A → B) (n : ℕ) (ps : List A) (i : ℕ) → n ≤ length ps → scan t 0 (map f (take n ps)) ≡ some i → i < n
 scan-within t f n ps i h e = let l = scan-below t 0 (map f (take n ps)) i e in omega (arith, length-shows f n ps h)
 
+-- the start over a map's places
+pub scan-kept : {A B : Type 0} {P : A → Type 0} {b : A} {cap n : ℕ} {ps : List A} (t : B → Bool) (f : A → B) → Kept P b cap n ps → Ahead (scan t 0 (map f (take n ps))) t f n ps 0
+scan-kept {n = n} {ps} t f kept = scan-start t f n ps (omega arith)
+
+pub kept-within : {A B : Type 0} {P : A → Type 0} {b : A} {cap n i : ℕ} {ps : List A} (t : B → Bool) (f : A → B) → Kept P b cap n ps → scan t 0 (map f (take n ps)) ≡ some i → i < n
+kept-within {n = n} {i} {ps} t f kept e = scan-within t f n ps i (omega arith) e
+
 -- ---- a search by a number: `search keying` proves the whole loop
 abbrev pub keyIs : {B : Type 0} → (B → ℕ) → ℕ → B → Bool
 keyIs key k e = eqb (key e) k

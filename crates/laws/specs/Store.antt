@@ -8,12 +8,15 @@ use native.Mathlib.Omega.{arith}
 use borrow.Author.Needs.{needs}
 use lib.Seq.{drop-at, take-append-le, take-append-add, length-take-le, set-split, take-take, drop-cons}
 use lib.ListN.{length, take, drop, getD, set, replicate, length-append, length-drop, length-set, length-replicate, getD-replicate, length-map, length-take, drop-of-length-le, take-append-drop}
-use Rattle.laws.specs.Shift.{Kept, all-replicate, erase, insert, blend, gone, length-insert, length-blend, drop-blend, take-blend, take-insert, map-insert, rest-more, all-insert, all-blend, pushed, all-at, all-take, changed}
+use Rattle.laws.specs.Shift.{Kept, all-replicate, erase, insert, blend, gone, length-insert, length-blend, drop-blend, take-blend, take-insert, map-insert, rest-more, all-insert, all-blend, pushed, all-at, all-take, changed, shown, fit-at}
 use Rattle.rules.specs.Base.{All}
 use Rattle.laws.specs.Buffer.{kept-same}
 use Rattle.laws.specs.Splice.{splice, length-splice, Wrote}
+use Rattle.laws.specs.Scan.{scan, kept-within}
+use mathlib.Core.Bool.{Bool}
+use mathlib.Core.Option.{some}
 use Rattle.laws.specs.Part.{getD-past, getD-here}
-use Rattle.laws.specs.Chunk.{chunks, length-chunks, chunk-size, chunks-splice, chunks-run, chunks-part, chunks-whole, chunks-set, chunks-zeros, chunks-joined, chunks-size, joined}
+use Rattle.laws.specs.Chunk.{chunks, chunk-at, length-chunks, chunk-size, chunks-splice, chunks-run, chunks-part, chunks-whole, chunks-set, chunks-zeros, chunks-joined, chunks-size, joined}
 
 -- ---- a store: cap chunks of width w, and then a byte that says how many are in use; the others are zeros
 pub record Store (P : List ℕ → Type 0) (w cap : ℕ) (s : List ℕ) : Type 0 where
@@ -264,6 +267,22 @@ module _ {B : Type 0} (f : List ℕ → B) {P : List ℕ → Type 0} {w cap : �
       → Store P w cap m × (entries f w cap m ≡ insert at v (entries f w cap s))
   inserted-is r h k e a pb z = rw (a .is, e, ← z) (store-inserted f r h k pb (a .size))
 
+-- what stands in an entry, and that a place found is one of those in use
+module _ {B : Type 0} (f : List ℕ → B) {P : List ℕ → Type 0} {w cap : ℕ} {s : List ℕ} (r : Store P w cap s) where
+  pub entry-shows : (i : ℕ) (d : B) → i < getD s (cap * w) 0 → f (take w (drop (i * w) s)) ≡ getD (entries f w cap s) i d
+  entry-shows i d h = ap f (sym (chunk-at w cap s i [] (omega arith))) ∙ shown f i [] d (r .kept) h
+
+  pub entry-fits : (i : ℕ) → i < getD s (cap * w) 0 → P (take w (drop (i * w) s))
+  entry-fits i h = rw (← chunk-at w cap s i [] (omega arith)) (fit-at f i [] (r .kept) h)
+
+  pub entry-within : (t : B → Bool) (i : ℕ) → scan t 0 (entries f w cap s) ≡ some i → i < getD s (cap * w) 0
+  entry-within t i e = kept-within t f (r .kept) e
+
+  pub entries-count : length (entries f w cap s) ≡ getD s (cap * w) 0
+  entries-count =
+      let l : length (chunks w cap s) ≡ cap = length-chunks w cap s in
+      simp (length-map, length-take) (omega arith)
+
 -- a new store
 pub store-zeros : (P : List ℕ → Type 0) (w cap : ℕ) → P (replicate w 0) → Store P w cap (replicate (cap * w + 1) 0)
 store-zeros P w cap pb =
@@ -307,19 +326,18 @@ pub same-view : {B : Type 0} (f : List ℕ → B) {P : List ℕ → Type 0} {w c
 same-view {B} f {P} {w} {cap} {s} {u} r q apart e =
     region-same w cap s u (r .size) (q .size) cs count
   where
-    shown-count : (s : List ℕ) → Store P w cap s → length (entries f w cap s) ≡ getD s (cap * w) 0
-    shown-count s r =
-        let l : length (chunks w cap s) ≡ cap = length-chunks w cap s in
-        simp (length-map, length-take) (omega arith)
     count : getD s (cap * w) 0 ≡ getD u (cap * w) 0
-    count = sym (shown-count s r) ∙ ap length e ∙ shown-count u q
+    count = sym (entries-count f r) ∙ ap length e ∙ entries-count f q
+
     held : (s : List ℕ) → Store P w cap s → All (λ (c : List ℕ). P c × (length c ≡ w)) (chunks w cap s)
     held s r = all-both P (λ c. length c ≡ w) (chunks w cap s) (r .kept .each) (chunks-size w cap s (omega arith))
+
     front : take (getD s (cap * w) 0) (chunks w cap s) ≡ take (getD s (cap * w) 0) (chunks w cap u)
     front =
         map-same f (λ c. P c × (length c ≡ w)) apart (take (getD s (cap * w) 0) (chunks w cap s)) (take (getD s (cap * w) 0) (chunks w cap u))
         (all-take (λ c. P c × (length c ≡ w)) (getD s (cap * w) 0) (chunks w cap s) (held s r))
         (all-take (λ c. P c × (length c ≡ w)) (getD s (cap * w) 0) (chunks w cap u) (held u q))
         (e ∙ rw count)
+
     cs : chunks w cap s ≡ chunks w cap u
     cs = kept-same (r .kept) (rw (← count) at (q .kept)) front
