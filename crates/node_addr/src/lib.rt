@@ -1,6 +1,6 @@
 // Node addresses, transport addresses, digests and messages, by value.
+pub mod place;
 pub mod same;
-pub mod words;
 
 ghost use mathlib.Core.Path.{_≡_};
 ghost use Rattle.node_addr.specs.View.{blankNode, blankDigest, blankAddr, blankPair, blankMessage};

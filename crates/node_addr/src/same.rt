@@ -4,8 +4,8 @@ use crate::Digest;
 use crate::Message;
 use crate::NodeAddr;
 use crate::Pair;
-use crate::words::before_words;
-use crate::words::same_words;
+use memory::compare::before_run;
+use memory::compare::same_run;
 ghost use mathlib.Core.Path.{_≡_};
 ghost use Rattle.rules.specs.Base.{same};
 ghost use Rattle.rules.specs.Std.{before};
@@ -17,7 +17,7 @@ pub fn same_node(a: NodeAddr, b: NodeAddr) -> bool
 {
     let x = a.0;
     let y = b.0;
-    same_words(&x, 0, &y, 0, 2)
+    same_run(&x, 0, &y, 0, 16)
 }
 
 pub fn node_before(a: NodeAddr, b: NodeAddr) -> bool
@@ -25,7 +25,7 @@ pub fn node_before(a: NodeAddr, b: NodeAddr) -> bool
 {
     let x = a.0;
     let y = b.0;
-    before_words(&x, 0, &y, 0)
+    before_run(&x, 0, &y, 0)
 }
 
 pub fn same_digest(a: Digest, b: Digest) -> bool
@@ -33,7 +33,7 @@ pub fn same_digest(a: Digest, b: Digest) -> bool
 {
     let x = a.0;
     let y = b.0;
-    same_words(&x, 0, &y, 0, 4)
+    same_run(&x, 0, &y, 0, 32)
 }
 
 pub fn same_addr(a: Addr, b: Addr) -> bool
@@ -46,7 +46,7 @@ pub fn same_addr(a: Addr, b: Addr) -> bool
     }
     let x = a.bytes;
     let y = b.bytes;
-    same_words(&x, 0, &y, 0, 6)
+    same_run(&x, 0, &y, 0, 48)
 }
 
 pub fn same_pair(a: Pair, b: Pair) -> bool
@@ -72,5 +72,5 @@ pub fn same_message(a: Message, b: Message) -> bool
     }
     let x = a.bytes;
     let y = b.bytes;
-    same_words(&x, 0, &y, 0, 16)
+    same_run(&x, 0, &y, 0, 128)
 }

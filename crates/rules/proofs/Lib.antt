@@ -5,3 +5,8 @@ pub mod Demand
 pub mod Owners
 pub mod Walk
 pub mod Holders
+pub mod Fields
+pub mod CallFits
+pub mod Records
+pub mod Time
+pub mod Rows

@@ -2,12 +2,12 @@ use mathlib.Core.Path.{_≡_}
 use native.Mathlib.Omega.{arith}
 use borrow.Author.Needs.{needs}
 use lib.ListN.{length}
-use Rattle.node_addr.specs.Words.{before-whole}
+use Rattle.node_addr.specs.Alike.{before-whole}
 use Rattle.node_addr.proofs.same.node_before.Statement.{statement}
 use Rattle.node_addr.proofs.same.node_before.Tie as tie
 
-before-words-requires : tie.Need-before-words-requires
-before-words-requires c κs =
+before-run-requires : tie.Need-before-run-requires
+before-run-requires c κs =
     let v = c .before .before .before .before .args in
     let x : length (v .a .0) ≡ 16 = search needs in
     let y : length (v .b .0) ≡ 16 = search needs in
@@ -16,7 +16,7 @@ before-words-requires c κs =
 returns : tie.Need-returns
 returns c =
     let v = c .before .before .before .before .before .args in
-    before-whole 16 (v .a .0) (v .b .0) (search needs) (search needs) (c .before-words .ensures)
+    before-whole 16 (v .a .0) (v .b .0) (search needs) (search needs) (c .before-run .ensures)
 
 pub node-before-spec : {M : Type 1} → statement M
-node-before-spec = tie.close (tie.spec (λ c. search needs) (λ c. search needs) before-words-requires returns)
+node-before-spec = tie.close (tie.spec (λ c. search needs) (λ c. search needs) before-run-requires returns)

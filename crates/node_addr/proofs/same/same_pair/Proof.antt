@@ -1,6 +1,6 @@
 use borrow.Author.Needs.{needs}
 use Rattle.node_addr.specs.View.{viewPair}
-use Rattle.node_addr.specs.Words.{pair-unlike, pair-like}
+use Rattle.node_addr.specs.Alike.{pair-unlike, pair-like}
 use Rattle.node_addr.proofs.same.same_pair.Statement.{statement}
 use Rattle.node_addr.proofs.same.same_pair.Tie as tie
 
