@@ -1,5 +1,8 @@
 // What is remembered of one peer, by value: the stamp of a restart, the digests that promoted it unheard, its silences; and the judgement of a msg1.
 pub mod counted;
+pub mod judged;
+pub mod lent;
+pub mod remembered;
 pub mod seen;
 
 use node_addr::Digest;

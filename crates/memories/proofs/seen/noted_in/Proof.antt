@@ -12,6 +12,9 @@ returns c =
     let a = d .before .args in
     (c .limited-to .ensures .0, c .limited-to .ensures .1 ∙ noted-seen (a .limit) (a .clock) (a .digest .0) (viewReplays (a .r)) (sym (d .seen-in .ensures) ∙ c .before .if1 .taken))
 
+push-replay-requires : tie.Need-push-replay-requires
+push-replay-requires c κs = (search needs, (record { digest = search needs; seen = search needs }, search needs))
+
 returns-2 : tie.Need-returns-2
 returns-2 c =
     let d = c .before .before .before .before in
@@ -23,6 +26,9 @@ returns-3 c =
     let d = c .before .before .before .before .before in
     let a = d .before .args in
     (d .before .pre .0, noted-nowhere (a .limit) (a .clock) (a .digest .0) (viewReplays (a .r)) (sym (d .seen-in .ensures) ∙ c .before .before .before .before .if1 .left) (shown-length viewReplay (d .before .pre .0) ∙ c .if3 .taken) (omega arith))
+
+push-replay-requires-2 : tie.Need-push-replay-requires-2
+push-replay-requires-2 c κs = (search needs, (record { digest = search needs; seen = search needs }, search needs))
 
 returns-4 : tie.Need-returns-4
 returns-4 c =
@@ -37,9 +43,9 @@ noted-in-spec =
     (λ c κs. search needs)
     (λ c κs. search needs)
     returns
-    (λ c κs. search needs)
+    push-replay-requires
     returns-2
     returns-3
     (λ c κs. search needs)
-    (λ c κs. search needs)
+    push-replay-requires-2
     returns-4)
