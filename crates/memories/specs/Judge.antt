@@ -6,10 +6,12 @@ use mathlib.Core.List.{List, [], _∷_}
 use Prim.Native.Nat.{ℕ, _≤_, _<_}
 use native.Mathlib.Omega.{arith}
 use borrow.Author.Tests.{lt-ltb, le-ltb, not-true, not-false}
-use lib.Dec.{eqb, ltb}
+use lib.Dec.{eqb, leb, ltb}
 use lib.ListN.{length}
-use Rattle.rules.specs.Base.{if_then_else_, option, is, empty}
-use Rattle.rules.specs.Gates.{differ, silencing, remembers}
+use Rattle.rules.specs.Base.{if_then_else_, option, is, empty, Bytes, orElse}
+use Rattle.rules.specs.Time.{Params}
+use Rattle.rules.specs.Data as rule
+use Rattle.rules.specs.Gates.{differ, silencing, remembers, Ask, recentReplays, seenIn, replayed, young, dampened, judge, gate, asksSilence, gated}
 use Rattle.memories.specs.declared.Memory.{Memory}
 use Rattle.memories.specs.View.{optional, viewReplays, viewDigests, viewSilence, viewMemory, FitMemory, viewReplay}
 use Rattle.memories.specs.Loops.{shown-length}
@@ -62,3 +64,25 @@ module _ (m : Memory) (e now : ℕ) where
           go : (b : Bool) → b ≡ not (not b)
           go true = refl
           go false = refl
+
+-- ---- replays, once those younger than the interval are found
+pub replayed-of : (c : Params) (now : ℕ) (e : Bytes) (m : rule.Memory) (live : List rule.Replay) → live ≡ recentReplays c now (m .replays)
+    → (if seenIn e live then some rule.Refusal.Replayed else (if leb (c .replays) (length live) then some rule.Refusal.ReplayFull else none)) ≡ replayed c now e m
+unfolding replayed
+replayed-of c now e m live p =
+    ap (λ (s : List rule.Replay). if seenIn e s then some rule.Refusal.Replayed else (if leb (c .replays) (length s) then some rule.Refusal.ReplayFull else none)) p
+
+-- ---- of a holder only its liveness is read
+abbrev pub Alike : Option rule.Held → Option rule.Held → Type 0
+Alike none none = Unit {0}
+Alike none (some k) = ⊥
+Alike (some h) none = ⊥
+Alike (some h) (some k) = (h .heard ≡ k .heard) × (h .installed ≡ k .installed) × (h .last ≡ k .last)
+
+pub gate-alike : (c : Params) (now : ℕ) (m : rule.Memory) (x : rule.Source) (e : Option Bytes) (n : Option ℕ) (h k : Option rule.Held) → Alike h k
+    → gate c now (record { source = x; held = h; ephemeral = e; epoch = n }) m ≡ gate c now (record { source = x; held = k; ephemeral = e; epoch = n }) m
+unfolding gate judge young
+gate-alike c now m x e n none none a = refl
+gate-alike c now m x e n none (some k) a = absurd a
+gate-alike c now m x e n (some h) none a = absurd a
+gate-alike c now m x e n (some h) (some k) a = rw (a .0, a .1, a .2)

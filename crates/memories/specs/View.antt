@@ -3,17 +3,21 @@ use mathlib.Core.Path.{_≡_, refl}
 use mathlib.Core.Bool.{Bool, true, false}
 use mathlib.Core.Option.{Option, none, some}
 use mathlib.Core.List.{List, [], _∷_, map}
-use Prim.Native.Nat.{ℕ}
+use Prim.Native.Nat.{ℕ, _≤_}
 use lib.Dec.{lit≤, lit<}
 use lib.ListN.{length, take, replicate}
 use mir.Syntax.{w64}
 use mir.Val.{Fits}
 use Rattle.rules.specs.Base.{if_then_else_, Bytes}
 use Rattle.rules.specs.Data as rule
+use Rattle.rules.specs.Time as time
+use Rattle.rules.specs.Bounds.{IfAny}
+use Rattle.rules.specs.Gates.{Ask}
 use Rattle.laws.specs.Shift.{Kept, all-replicate}
 use Rattle.node_addr.specs.declared.NodeAddr.{NodeAddr}
 use Rattle.node_addr.specs.declared.Digest.{Digest}
 use Rattle.node_addr.specs.View.{blankDigest}
+use Rattle.params.specs.declared.Params.{Params}
 use Rattle.memories.specs.declared.Replay.{Replay}
 use Rattle.memories.specs.declared.Replays.{Replays}
 use Rattle.memories.specs.declared.Digests.{Digests}
@@ -104,6 +108,16 @@ pub record FitMemory (m : Memory) : Type 0 where
   pub silence : FitSilence (m .silence)
   pub quiet : m .silent ≡ false → m .silence ≡ blankSilence
 
+-- settings within range
+pub record FitParams (c : Params) : Type 0 where
+  pub replays : c .replays ≤ 8
+  pub some-counted : 1 ≤ c .counted
+  pub counted : c .counted ≤ 8
+
+-- the digests that a silence counted are within the settings
+abbrev pub Within : time.Params → rule.Memory → Type 0
+Within c m = IfAny (λ (s : rule.Silence). length (s .counted) ≤ c .counted) (m .silence)
+
 pub fit-blank-replay : FitReplay blankReplay
 fit-blank-replay = record { digest = refl; seen = record { fits = lit< tt } }
 
@@ -146,3 +160,41 @@ denialOf (denial.Gate r) = rule.Denial.Gate (refusalOf r)
 abbrev pub refusedBy : Verdict → Option rule.Refusal
 refusedBy verdict.Pass = none
 refusedBy (verdict.Refuse r) = some (refusalOf r)
+
+-- ---- what is asked
+
+-- settings of which only the interval is read
+abbrev pub spanned : ℕ → time.Params
+spanned i = record {
+  unheard = 0;
+  interval = i;
+  replays = 0;
+  silent = 0;
+  silentbase = 0;
+  silentcap = 0;
+  horizon = 0;
+  counted = 0;
+  handshake = 0;
+  resend = 0;
+  resends = 0;
+  pending = 0;
+}
+
+-- a holder of which only the liveness is read
+abbrev pub heldOf : Liveness → rule.Held
+heldOf l = record {
+  peer = [];
+  link = 0;
+  epoch = 0;
+  current = record { transport = 0; addr = [] };
+  heard = l .heard;
+  installed = l .installed;
+  last = optional (l .dated) (l .last);
+  setup = none;
+}
+
+abbrev pub viewLiveness : Liveness → Option rule.Held
+viewLiveness l = optional (l .held) (heldOf l)
+
+abbrev pub asking : Source → Liveness → Digest → ℕ → Ask
+asking x l d e = record { source = sourceOf x; held = viewLiveness l; ephemeral = some (d .0); epoch = some e }

@@ -4,6 +4,7 @@ pub mod judged;
 pub mod lent;
 pub mod remembered;
 pub mod seen;
+pub mod silences;
 
 use node_addr::Digest;
 use node_addr::NodeAddr;

@@ -2,14 +2,16 @@
 use crate::Replay;
 use crate::Replays;
 use crate::blank_replay;
+use crate::no_replays;
 use node_addr::Digest;
 use node_addr::same::same_digest;
+use params::time::younger;
 ghost use mathlib.Core.Path.{_≡_};
 ghost use mathlib.Core.List.{[], _∷_, _++_, tail};
 ghost use Prim.Native.Nat.{_+_, _≤_, _<_};
 ghost use Rattle.rules.specs.Base.{if_then_else_};
-ghost use Rattle.rules.specs.Gates.{seenIn, limited, noted};
-ghost use Rattle.memories.specs.View.{viewReplay, viewReplays, FitReplay, FitReplays};
+ghost use Rattle.rules.specs.Gates.{recentReplays, seenIn, limited, noted};
+ghost use Rattle.memories.specs.View.{viewReplay, viewReplays, FitReplay, FitReplays, spanned};
 
 // One more.
 pub fn push_replay(r: Replays, e: Replay) -> Replays
@@ -40,6 +42,24 @@ pub fn push_if(r: Replays, e: Replay, keeps: bool) -> Replays
         return push_replay(r, e);
     }
     r
+}
+
+// Those that are younger than the interval.
+pub fn recent_replays(r: Replays, clock: u64, interval: u64) -> Replays
+    requires { ⌜ FitReplays r ⌝ }
+    ensures { λ x. ⌜ FitReplays x ⌝ }
+    ensures { λ x. ⌜ viewReplays x ≡ recentReplays (spanned interval) clock (viewReplays r) ⌝ }
+{
+    let n = r.len;
+    let mut out = no_replays();
+    let mut i = 0;
+    while i < n {
+        let e = r.places[i];
+        let keeps = younger(interval, clock, e.seen);
+        out = push_if(out, e, keeps);
+        i += 1;
+    }
+    out
 }
 
 // The oldest gone.
