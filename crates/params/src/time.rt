@@ -46,8 +46,9 @@ fn least(a: u64, b: u64) -> u64
 pub fn deadline(now: u64, d: u64) -> u64
     ensures { λ r. ⌜ r ≡ rule.deadline now (fromNanos d) ⌝ }
 {
+    let room = LAST - now;
     let mut step = least(d, CEILING);
-    while LAST - now < step {
+    while room < step {
         step = step / 2;
     }
     now + step
