@@ -1,0 +1,118 @@
+//! The reference settle table behind the records, limits and refusals of
+//! document 01, with a tape generator and counts of what its tapes reach.
+#![allow(dead_code, unused_imports, mismatched_lifetime_syntaxes)]
+
+extern crate alloc;
+
+// Every fault switch of the reference reads false.
+macro_rules! fault {
+    ($f:ident) => {
+        false
+    };
+}
+macro_rules! node_fault {
+    ($f:ident) => {
+        false
+    };
+}
+
+mod identity;
+mod time;
+mod transport;
+mod proto {
+    pub mod fmp;
+    pub mod rekey;
+    pub mod settle {
+        pub mod gates;
+        pub mod input;
+        pub mod legs;
+        pub mod links;
+        pub mod output;
+        pub mod params;
+        pub mod table;
+    }
+}
+
+mod cover;
+mod damage;
+mod dump;
+mod generate;
+mod node;
+mod plan;
+mod profile;
+mod random;
+mod record;
+mod tape;
+mod write;
+
+use std::io::{Read, Write};
+use std::process::ExitCode;
+
+const USAGE: &str = "usage: oracle run < tape > out
+       oracle table < tape > dump
+       oracle generate PROFILE SEED [CALLS] > tape
+       oracle cover PROFILE|all FROM TO [CALLS]
+       oracle cases PROFILE FROM TO CALLS  (a line for each seed: seed, tape, output, dump in hexadecimal)
+       oracle profiles";
+
+fn main() -> ExitCode {
+    let args: Vec<String> = std::env::args().skip(1).collect();
+    let words: Vec<&str> = args.iter().map(String::as_str).collect();
+    match run(&words) {
+        Some(out) => {
+            std::io::stdout().write_all(&out).expect("standard output");
+            ExitCode::SUCCESS
+        }
+        None => {
+            eprintln!("{USAGE}");
+            ExitCode::from(2)
+        }
+    }
+}
+
+fn run(words: &[&str]) -> Option<Vec<u8>> {
+    match words {
+        ["run"] => Some(tape::run(&input())),
+        ["table"] => Some(dump::after(&input())),
+        ["profiles"] => Some(format!("{}\n", profile::NAMES.join(" ")).into_bytes()),
+        ["generate", name, seed] => generate::tape(name, seed.parse().ok()?, None),
+        ["generate", name, seed, calls] => {
+            generate::tape(name, seed.parse().ok()?, Some(calls.parse().ok()?))
+        }
+        ["cover", name, from, to] => cover::table(name, from.parse().ok()?, to.parse().ok()?, None),
+        ["cover", name, from, to, calls] => {
+            let calls = calls.parse().ok()?;
+            cover::table(name, from.parse().ok()?, to.parse().ok()?, Some(calls))
+        }
+        ["cases", name, from, to, calls] => {
+            cases(name, from.parse().ok()?, to.parse().ok()?, calls.parse().ok()?)
+        }
+        _ => None,
+    }
+}
+
+/// One line for each seed of `from..to`: its tape, output and final table.
+fn cases(name: &str, from: u64, to: u64, calls: usize) -> Option<Vec<u8>> {
+    let mut out = String::new();
+    for seed in from..to {
+        let bytes = generate::tape(name, seed, Some(calls))?;
+        let told = tape::run(&bytes);
+        let left = dump::after(&bytes);
+        out += &format!("{seed} {} {} {}\n", hex(&bytes), hex(&told), hex(&left));
+    }
+    Some(out.into_bytes())
+}
+
+/// Hexadecimal, `-` for no bytes.
+fn hex(bytes: &[u8]) -> String {
+    if bytes.is_empty() {
+        return "-".into();
+    }
+    bytes.iter().map(|b| format!("{b:02x}")).collect()
+}
+
+fn input() -> Vec<u8> {
+    let mut bytes = Vec::new();
+    std::io::stdin().read_to_end(&mut bytes).expect("standard input");
+    bytes
+}

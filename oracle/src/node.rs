@@ -1,0 +1,147 @@
+//! A table behind its entries: `new` and `call` with the numbered refusals.
+
+use std::collections::BTreeSet;
+
+use crate::identity::NodeAddr;
+use crate::proto::settle::links::{LinkNo, Pair};
+use crate::proto::settle::output::Output;
+use crate::proto::settle::table::Table;
+use crate::record::{self, Call, Record};
+use crate::time::Clock;
+
+pub const SETTINGS: u8 = 1;
+pub const RECORD: u8 = 3;
+pub const NUMBERS: u8 = 4;
+pub const LINKS: u8 = 5;
+pub const NAMES: u8 = 6;
+pub const PATHS: u8 = 7;
+
+const ROOM: usize = 32;
+const PATHS_ROOM: usize = 4;
+
+pub struct Node {
+    pub table: Table<Clock>,
+    pub first: u64,
+    /// Pairs that Release or Close listed although a live record uses them
+    /// when the call ends; document 01 would leave them out.
+    pub overlisted: usize,
+}
+
+impl Node {
+    /// The new entry.
+    pub fn new(bytes: &[u8]) -> Result<Node, u8> {
+        let Some(Record::New(n)) = record::read(bytes, 0) else {
+            return Err(RECORD);
+        };
+        if n.params.counted == 0 || n.params.counted > 8 || n.params.replays > 8 {
+            return Err(SETTINGS);
+        }
+        Ok(Node {
+            table: Table::new(n.me, n.params),
+            first: n.first,
+            overlisted: 0,
+        })
+    }
+
+    /// The call entry: its outputs, or the number that refuses it. The call
+    /// runs on a copy, which takes the table's place if it is not refused.
+    pub fn call(&mut self, bytes: &[u8]) -> Result<Vec<Output>, u8> {
+        let Some(Record::Call(now, call)) = record::read(bytes, self.first) else {
+            return Err(RECORD);
+        };
+        let asks = self.asks(&call);
+        if asks.is_some() && self.last() {
+            return Err(NUMBERS);
+        }
+        let dial = matches!(call, Call::Dial(_));
+        if dial && let Some(peer) = asks {
+            self.room(peer)?;
+        }
+        if let Call::Path(link, pair, _) = &call {
+            self.path_room(*link, pair)?;
+        }
+        let ends = matches!(call, Call::Close | Call::Release(..));
+        let mut next = self.table.copy();
+        let outputs = next.call(call, now);
+        if !dial && let Some(peer) = asks && self.enters(peer, &outputs) {
+            self.room(peer)?;
+        }
+        if ends {
+            self.overlisted += overlisted(&next, &outputs);
+        }
+        self.table = next;
+        Ok(outputs)
+    }
+
+    /// The peer for whom the call may take a link number.
+    fn asks(&self, call: &Call) -> Option<NodeAddr> {
+        match call {
+            Call::Dial(d) => Some(d.peer),
+            Call::Msg1(h, _) | Call::Replacement(h) => Some(h.peer),
+            _ => None,
+        }
+    }
+
+    /// Whether the next link number is 2^64 - 1.
+    fn last(&self) -> bool {
+        self.first.wrapping_add(self.table.links().opened()) == u64::MAX
+    }
+
+    /// Whether a msg1 or replacement passed admission for a peer not held:
+    /// it gave a fresh answer.
+    fn enters(&self, peer: NodeAddr, outputs: &[Output]) -> bool {
+        let fresh = |o: &Output| matches!(o, Output::Answer { stored: false, .. });
+        self.table.held(&peer).is_none() && outputs.iter().any(fresh)
+    }
+
+    /// Room for a link and for the peer's place.
+    fn room(&self, peer: NodeAddr) -> Result<(), u8> {
+        if self.table.links().recs().len() >= ROOM {
+            return Err(LINKS);
+        }
+        let places = self.places();
+        if !places.contains(&peer) && places.len() >= ROOM {
+            return Err(NAMES);
+        }
+        Ok(())
+    }
+
+    fn path_room(&self, link: LinkNo, pair: &Pair) -> Result<(), u8> {
+        let Some(r) = self.table.links().get(link) else {
+            return Ok(());
+        };
+        let known = r.paths.iter().any(|(p, _)| p == pair);
+        if !known && r.paths.len() >= PATHS_ROOM {
+            return Err(PATHS);
+        }
+        Ok(())
+    }
+
+    /// The peers that are held, have a leg, or are remembered.
+    pub fn places(&self) -> BTreeSet<NodeAddr> {
+        let held = self.table.holders().keys().copied();
+        let legs = self.table.legs().all().filter_map(|l| l.peer());
+        let known = self.table.gates().memories().into_iter().map(|m| m.peer);
+        held.chain(legs).chain(known).collect()
+    }
+
+    /// What the derived data promises: the index is the derived one, and
+    /// each answer leg has one entry.
+    pub fn sound(&self) -> bool {
+        let links = self.table.links();
+        *links.index() == links.derived() && self.table.replies() == self.table.legs().answering()
+    }
+}
+
+fn overlisted(table: &Table<Clock>, outputs: &[Output]) -> usize {
+    let mut n = 0;
+    for o in outputs {
+        if let Output::Release { closes, .. }
+        | Output::Close { closes }
+        | Output::Retire { closes, .. } = o
+        {
+            n += closes.iter().filter(|p| table.links().used(p)).count();
+        }
+    }
+    n
+}

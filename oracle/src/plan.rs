@@ -1,0 +1,130 @@
+//! Runs of calls about one peer that lead up to a judgement of the gates or
+//! through a dial's resends, with the clock on, just before or just after the
+//! time that decides.
+
+use crate::dump::nanos;
+use crate::proto::settle::params::Params;
+use crate::random::Random;
+
+#[derive(Clone, Copy)]
+pub enum Item {
+    /// The clock goes on by so much.
+    Wait(u64),
+    /// The clock goes to one of the next times that decide something.
+    Due,
+    /// The clock goes to the end of the peer's refusal.
+    Until,
+    /// The clock goes to where the peer's silence is forgotten.
+    Horizon,
+    /// The clock goes to the next wake.
+    Woken,
+    Dial,
+    /// The last dial's msg2, mostly at the epoch on record.
+    Msg2,
+    Poll,
+    Wake,
+    Heard,
+    /// A msg1, or a replacement; at the epoch on record, or at another.
+    Hello { replacement: bool, restart: bool, fresh: bool },
+    /// The last answer or msg1 is sent.
+    Sent,
+    Remove,
+}
+
+pub fn draw(p: &Params, r: &mut Random) -> Vec<Item> {
+    if r.chance(if p.resends > 30 { 60 } else { 20 }) {
+        return resends(p, r);
+    }
+    let mut items = vec![hello(r, false), Item::Sent];
+    match r.below(4) {
+        0 => damp(p, r, &mut items),
+        1 => silence(p, r, &mut items),
+        2 => cross(p, r, &mut items),
+        _ => replays(p, r, &mut items),
+    }
+    items
+}
+
+/// Each resend sent when it is due, up to the count and past it.
+fn resends(p: &Params, r: &mut Random) -> Vec<Item> {
+    let mut items = vec![Item::Dial, Item::Wake];
+    if p.resends > 30 {
+        items.extend(vec![Item::Sent; 29 + r.index(5)]);
+        items.push(Item::Wake);
+    }
+    for _ in 0..p.resends.min(6) + 1 {
+        items.extend([Item::Woken, Item::Poll]);
+        if r.chance(90) {
+            items.push(Item::Sent);
+        }
+        items.push(Item::Wake);
+    }
+    items
+}
+
+/// The unheard holder's dial completes: it moves, keeps or is replaced.
+fn cross(p: &Params, r: &mut Random, items: &mut Vec<Item>) {
+    items.extend([Item::Dial, Item::Msg2]);
+    items.push(near(nanos(p.unheard), r));
+    items.push(hello(r, true));
+    if r.chance(50) {
+        items.push(Item::Sent);
+    }
+    items.extend([Item::Remove, new_peer(r, 90)]);
+}
+
+/// A heard holder gives way, then an unheard one soon after.
+fn damp(p: &Params, r: &mut Random, items: &mut Vec<Item>) {
+    items.push(Item::Heard);
+    items.push(near(nanos(p.interval), r));
+    items.extend([hello(r, true), Item::Sent]);
+    items.push(near(nanos(p.unheard), r));
+    items.push(hello(r, true));
+    items.push(near(nanos(p.interval).saturating_sub(nanos(p.unheard)), r));
+    items.push(hello(r, true));
+}
+
+/// Holders end unheard until msg1s are refused, and once that is over.
+fn silence(p: &Params, r: &mut Random, items: &mut Vec<Item>) {
+    items.push(Item::Remove);
+    let fresh = 30 + 60 * r.below(2);
+    for _ in 0..u64::from(p.silent.min(6)) + r.below(4) {
+        items.extend([new_peer(r, fresh), Item::Sent, Item::Remove]);
+    }
+    items.push(new_peer(r, fresh));
+    for _ in 0..3 {
+        items.push(if r.chance(50) { Item::Until } else { Item::Horizon });
+        items.extend([new_peer(r, fresh), Item::Sent, Item::Remove, new_peer(r, fresh)]);
+    }
+}
+
+/// Unheard holders give way to each other up to the limit and past it.
+fn replays(p: &Params, r: &mut Random, items: &mut Vec<Item>) {
+    for _ in 0..p.replays.min(8) as u64 + r.below(3) {
+        if r.chance(50) {
+            items.push(Item::Remove);
+        } else {
+            items.push(near(nanos(p.unheard), r));
+        }
+        items.extend([hello(r, true), Item::Sent]);
+    }
+    for _ in 0..2 {
+        items.extend([Item::Due, hello(r, true), hello(r, true), Item::Sent]);
+    }
+}
+
+fn hello(r: &mut Random, restart: bool) -> Item {
+    Item::Hello { replacement: r.chance(30), restart: restart && r.chance(80), fresh: r.chance(75) }
+}
+
+fn new_peer(r: &mut Random, fresh: u64) -> Item {
+    Item::Hello { replacement: r.chance(15), restart: false, fresh: r.chance(fresh) }
+}
+
+fn near(span: u64, r: &mut Random) -> Item {
+    match r.below(5) {
+        0 => Item::Wait(span.saturating_sub(1)),
+        1 => Item::Wait(span.saturating_add(1)),
+        _ => Item::Wait(span),
+    }
+}

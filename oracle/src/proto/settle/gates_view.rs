@@ -1,0 +1,40 @@
+//! What the oracle reads of the gates' memories.
+
+use super::*;
+
+pub struct Remembered<I> {
+    pub peer: NodeAddr,
+    pub stamp: Option<I>,
+    pub replays: Vec<(EphemeralDigest, I)>,
+    pub silence: Option<Silenced<I>>,
+}
+
+pub struct Silenced<I> {
+    pub epoch: Option<Epoch>,
+    pub count: u32,
+    pub last: I,
+    pub until: Option<I>,
+    pub counted: Vec<EphemeralDigest>,
+}
+
+impl<I: Instant> Gates<I> {
+    /// The memories in the order of peers, without those that remember
+    /// nothing.
+    pub fn memories(&self) -> Vec<Remembered<I>> {
+        let blank = Memory::default();
+        let some = self.peers.iter().filter(|(_, m)| **m != blank);
+        some.map(|(peer, m)| Remembered {
+            peer: *peer,
+            stamp: m.stamp,
+            replays: m.replays.clone(),
+            silence: m.silence.as_ref().map(|s| Silenced {
+                epoch: s.epoch,
+                count: s.count,
+                last: s.last,
+                until: s.until,
+                counted: s.counted.clone(),
+            }),
+        })
+        .collect()
+    }
+}

@@ -1,0 +1,95 @@
+//! The program settle-tape, fed with bytes as they come.
+
+use crate::node::{Node, RECORD};
+use crate::proto::settle::output::Output;
+use crate::write;
+
+/// What a record came to: its kind byte if it has one, and the outputs or
+/// the number that refuses it.
+pub struct Step {
+    pub kind: Option<u8>,
+    pub result: Result<Vec<Output>, u8>,
+}
+
+#[derive(Default)]
+pub struct Tape {
+    pub node: Option<Node>,
+    rest: Vec<u8>,
+    ended: bool,
+}
+
+impl Tape {
+    /// Every whole record of `bytes`, after what an earlier feed left over.
+    pub fn feed(&mut self, bytes: &[u8]) -> Vec<Step> {
+        self.rest.extend(bytes);
+        let mut steps = Vec::new();
+        while !self.ended && let Some(body) = self.cut() {
+            steps.push(self.step(&body));
+        }
+        steps
+    }
+
+    /// The input ends: a cut last record gives 3.
+    pub fn end(&mut self) -> Option<Step> {
+        if self.ended || self.rest.is_empty() {
+            return None;
+        }
+        self.ended = true;
+        Some(Step { kind: None, result: Err(RECORD) })
+    }
+
+    /// Whether the program has ended, or reads a record that is not whole.
+    pub fn lost(&self) -> bool {
+        self.ended || !self.rest.is_empty()
+    }
+
+    pub fn first(&self) -> u64 {
+        self.node.as_ref().map_or(0, |n| n.first)
+    }
+
+    fn cut(&mut self) -> Option<Vec<u8>> {
+        let length = u16::from_be_bytes(self.rest.get(..2)?.try_into().ok()?);
+        let end = 2 + usize::from(length);
+        let body = self.rest.get(2..end)?.to_vec();
+        self.rest.drain(..end);
+        Some(body)
+    }
+
+    fn step(&mut self, body: &[u8]) -> Step {
+        let result = match &mut self.node {
+            Some(node) => node.call(body),
+            None => match Node::new(body) {
+                Ok(node) => {
+                    self.node = Some(node);
+                    Ok(Vec::new())
+                }
+                Err(number) => {
+                    self.ended = true;
+                    Err(number)
+                }
+            },
+        };
+        Step { kind: body.get(1).copied(), result }
+    }
+}
+
+/// Every step of a tape.
+pub fn steps(bytes: &[u8]) -> (Tape, Vec<Step>) {
+    let mut tape = Tape::default();
+    let mut steps = tape.feed(bytes);
+    steps.extend(tape.end());
+    (tape, steps)
+}
+
+/// What the program writes.
+pub fn run(bytes: &[u8]) -> Vec<u8> {
+    let (tape, steps) = steps(bytes);
+    let mut out = Vec::new();
+    for s in &steps {
+        for o in s.result.iter().flatten() {
+            write::output(o, tape.first(), &mut out);
+        }
+        write::done(*s.result.as_ref().err().unwrap_or(&0), &mut out);
+    }
+    out
+}
