@@ -55,7 +55,8 @@ past k h d = omega arith
 eight : (n : ℕ) → n < 9 → 8 ≤ n → 8 ≡ n
 eight n h k = omega arith
 
-pub why-last : (n : ℕ) → n < 9 → (n ≡ 0 → ⊥) → (n ≡ 1 → ⊥) → (n ≡ 2 → ⊥) → (n ≡ 3 → ⊥) → (n ≡ 4 → ⊥) → (n ≡ 5 → ⊥) → (n ≡ 6 → ⊥) → (n ≡ 7 → ⊥) → 8 ≡ n
+pub why-last : (n : ℕ) → n < 9 → (n ≡ 0 → ⊥) → (n ≡ 1 → ⊥) → (n ≡ 2 → ⊥) → (n ≡ 3 → ⊥)
+    → (n ≡ 4 → ⊥) → (n ≡ 5 → ⊥) → (n ≡ 6 → ⊥) → (n ≡ 7 → ⊥) → 8 ≡ n
 why-last n h a b c d e f g i = eight n h (past 7 (past 6 (past 5 (past 4 (past 3 (past 2 (past 1 (past 0 (zero≤ n) a) b) c) d) e) f) g) i)
   where
     zero≤ : (n : ℕ) → 0 ≤ n

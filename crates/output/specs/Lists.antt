@@ -130,7 +130,8 @@ list-one p a = rw (append-nil (pairBytes p)) a
 
 -- the header of a Retire, over the 13 bytes before its pairs
 pub retire-written : {xs : Bytes} {at m : ℕ} {ys : Bytes} {r : ℕ} {zs : Bytes} {q : ℕ} (n link count : ℕ) (s : List Pair)
-    → Wrote xs (at + 13) m (pairsBytes s) ys r → Wrote ys at 13 (header 8 n ++ digits 8 link ++ digits 1 count) zs q → n ≡ 9 + m → length s ≡ count → Wrote xs at (13 + m) (outputRecord (Retire link s)) zs r
+    → Wrote xs (at + 13) m (pairsBytes s) ys r → Wrote ys at 13 (header 8 n ++ digits 8 link ++ digits 1 count) zs q
+    → n ≡ 9 + m → length s ≡ count → Wrote xs at (13 + m) (outputRecord (Retire link s)) zs r
 unfolding outputRecord outputBytes listBytes
 retire-written {m = m} n link count s a b e f =
     let g : length (digits 8 link ++ (digits 1 count ++ pairsBytes s)) ≡ n = simp (length-append, length-digits) (omega (arith, a .size)) in

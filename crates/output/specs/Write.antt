@@ -21,7 +21,8 @@ use Rattle.node_addr.specs.declared.Pair as pair
 unfoldable pub header : ℕ → ℕ → Bytes
 header kind n = digits 2 (n + 2) ++ (1 ∷ kind ∷ [])
 
-pub header-written : {xs : Bytes} {at : ℕ} {ys : Bytes} {r : ℕ} (kind n : ℕ) → Wrote xs at 4 (digits 2 (n + 2) ++ (1 ∷ []) ++ (kind ∷ [])) ys r → Wrote xs at 4 (header kind n) ys r
+pub header-written : {xs : Bytes} {at : ℕ} {ys : Bytes} {r : ℕ} (kind n : ℕ)
+    → Wrote xs at 4 (digits 2 (n + 2) ++ (1 ∷ []) ++ (kind ∷ [])) ys r → Wrote xs at 4 (header kind n) ys r
 unfolding header
 header-written kind n a = rw (append-assoc (digits 2 (n + 2)) (1 ∷ []) (kind ∷ [])) at a
 
@@ -30,7 +31,8 @@ pub pair-written : {xs : Bytes} {at k : ℕ} {p : pair.Pair} {ys : Bytes} {r : �
 unfolding pairBytes
 pair-written f a = rw (kept-length (f .addr .kept)) a
 
-pub message-written : {xs : Bytes} {at : ℕ} {ys : Bytes} {r : ℕ} (n : ℕ) (m : Bytes) → length m ≡ n → Wrote xs at (2 + n) (digits 2 n ++ m) ys r → Wrote xs at (2 + n) (messageBytes m) ys r
+pub message-written : {xs : Bytes} {at : ℕ} {ys : Bytes} {r : ℕ} (n : ℕ) (m : Bytes)
+    → length m ≡ n → Wrote xs at (2 + n) (digits 2 n ++ m) ys r → Wrote xs at (2 + n) (messageBytes m) ys r
 unfolding messageBytes
 message-written n m e a = rw e a
 

@@ -73,7 +73,9 @@ fn put_release_one(out: &mut [u8], at: usize, link: LinkNo, p: Pair) -> usize
 pub fn put_release(out: &mut [u8], at: usize, link: LinkNo, closes: bool, p: Pair) -> usize
     requires { ⌜ FitPair p ⌝ }
     requires { ⌜ at + (if closes then (18 + p .addr .len) else 13) ≤ length (now out) ⌝ }
-    ensures { λ r. ⌜ Wrote (now (out .entry)) at (if closes then (18 + p .addr .len) else 13) (outputRecord (Output.Release (link .0) (if closes then (viewPair p ∷ []) else []))) (now (out .exit)) r ⌝ }
+    ensures { λ r. ⌜ Wrote (now (out .entry)) at (if closes then (18 + p .addr .len) else 13)
+        (outputRecord (Output.Release (link .0) (if closes then (viewPair p ∷ []) else [])))
+        (now (out .exit)) r ⌝ }
 {
     if closes {
         return put_release_one(out, at, link, p);

@@ -113,7 +113,9 @@ pub fn put_install(
 ) -> usize
     requires { ⌜ FitPair pair ⌝ }
     requires { ⌜ at + (39 + pair .addr .len) ≤ length (now out) ⌝ }
-    ensures { λ r. ⌜ Wrote (now (out .entry)) at (39 + pair .addr .len) (outputRecord (Install (record { peer = peer .0; link = link .0; pair = viewPair pair; build = buildOf build; initiator = initiator; lease = lease }))) (now (out .exit)) r ⌝ }
+    ensures { λ r. ⌜ Wrote (now (out .entry)) at (39 + pair .addr .len)
+        (outputRecord (Install (record { peer = peer .0; link = link .0; pair = viewPair pair; build = buildOf build; initiator = initiator; lease = lease })))
+        (now (out .exit)) r ⌝ }
 {
     let code = build_code(build);
     let len = pair.addr.len;
@@ -199,7 +201,9 @@ pub fn put_reject(
     why: Denial,
 ) -> usize
     requires { ⌜ at + (if asked then 23 else 6) ≤ length (now out) ⌝ }
-    ensures { λ r. ⌜ Wrote (now (out .entry)) at (if asked then 23 else 6) (outputRecord (Reject (if asked then some (peer .0, sourceOf source) else none) (denialOf why))) (now (out .exit)) r ⌝ }
+    ensures { λ r. ⌜ Wrote (now (out .entry)) at (if asked then 23 else 6)
+        (outputRecord (Reject (if asked then some (peer .0, sourceOf source) else none) (denialOf why)))
+        (now (out .exit)) r ⌝ }
 {
     if asked {
         return put_reject_asked(out, at, peer, source, why);

@@ -26,4 +26,17 @@ returns : tie.Need-returns Inv-loop μ-loop
 returns c = listing-end (c .before .loop .inv) (omega arith)
 
 pub put-pairs-spec : {M : Type 1} → statement M
-put-pairs-spec = tie.close (tie.spec Inv-loop μ-loop loop-holds (λ c. search needs) (λ c. search needs) put-pair-requires (λ c. search needs) (λ c. search needs) loop-again (λ c. search needs) returns)
+put-pairs-spec =
+    tie.close
+    (tie.spec
+    Inv-loop
+    μ-loop
+    loop-holds
+    (λ c. search needs)
+    (λ c. search needs)
+    put-pair-requires
+    (λ c. search needs)
+    (λ c. search needs)
+    loop-again
+    (λ c. search needs)
+    returns)

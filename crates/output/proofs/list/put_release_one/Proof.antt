@@ -19,4 +19,13 @@ returns c =
     written (Output.Release _ (_ ∷ [])) _ _ (a .put-frame .ensures) (wrote-then (b .put-be .ensures) (list-one _ (wrote-then (n .put-be2 .ensures) (p .put-pair .ensures)))) (omega arith) (omega arith)
 
 pub put-release-one-spec : {M : Type 1} → statement M
-put-release-one-spec = tie.close (tie.spec (λ c. search needs) (λ c κs. search needs) (λ c κs. search needs) (λ c κs. search needs) (λ c κs. search needs) (λ c. search needs) returns)
+put-release-one-spec =
+    tie.close
+    (tie.spec
+    (λ c. search needs)
+    (λ c κs. search needs)
+    (λ c κs. search needs)
+    (λ c κs. search needs)
+    (λ c κs. search needs)
+    (λ c. search needs)
+    returns)

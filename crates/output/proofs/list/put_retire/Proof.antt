@@ -16,7 +16,21 @@ returns c =
     let b = d .before .before .before .before in
     let a = b .before .before .before .before in
     let p = a .before .before .before .before in
-    retire-written _ _ _ _ (p .put-pairs .ensures) (wrote-then (wrote-then (a .put-frame .ensures) (b .put-be .ensures)) (d .put-be2 .ensures)) (omega (arith, p .put-pairs .ensures)) (pairs-count (p .before .before .before .pre .0))
+    retire-written _ _ _ _ (p .put-pairs .ensures)
+    (wrote-then (wrote-then (a .put-frame .ensures) (b .put-be .ensures)) (d .put-be2 .ensures))
+    (omega (arith, p .put-pairs .ensures))
+    (pairs-count (p .before .before .before .pre .0))
 
 pub put-retire-spec : {M : Type 1} → statement M
-put-retire-spec = tie.close (tie.spec (λ c. search needs) (λ c κs. search needs) (λ c. search needs) (λ c. search needs) put-frame-requires (λ c κs. search needs) (λ c κs. search needs) (λ c. search needs) returns)
+put-retire-spec =
+    tie.close
+    (tie.spec
+    (λ c. search needs)
+    (λ c κs. search needs)
+    (λ c. search needs)
+    (λ c. search needs)
+    put-frame-requires
+    (λ c κs. search needs)
+    (λ c κs. search needs)
+    (λ c. search needs)
+    returns)

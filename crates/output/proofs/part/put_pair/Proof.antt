@@ -12,4 +12,12 @@ returns c =
     pair-written (t .before .before .before .before .before .pre .0) (wrote-then (wrote-then (t .put-be .ensures) (l .put-be2 .ensures)) (a .put-48 .ensures))
 
 pub put-pair-spec : {M : Type 1} → statement M
-put-pair-spec = tie.close (tie.spec (λ c. search needs) (λ c κs. search needs) (λ c κs. search needs) (λ c κs. search needs) (λ c. search needs) returns)
+put-pair-spec =
+    tie.close
+    (tie.spec
+    (λ c. search needs)
+    (λ c κs. search needs)
+    (λ c κs. search needs)
+    (λ c κs. search needs)
+    (λ c. search needs)
+    returns)

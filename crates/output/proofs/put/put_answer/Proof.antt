@@ -17,4 +17,13 @@ returns c =
     written (Output.Answer _ _ _) _ _ (a .put-frame .ensures) (wrote-then (wrote-then (b .put-be .ensures) (f .put-flag .ensures)) (m .put-message .ensures)) (omega arith) (omega arith)
 
 pub put-answer-spec : {M : Type 1} → statement M
-put-answer-spec = tie.close (tie.spec (λ c. search needs) (λ c κs. search needs) (λ c κs. search needs) (λ c κs. search needs) (λ c κs. search needs) (λ c. search needs) returns)
+put-answer-spec =
+    tie.close
+    (tie.spec
+    (λ c. search needs)
+    (λ c κs. search needs)
+    (λ c κs. search needs)
+    (λ c κs. search needs)
+    (λ c κs. search needs)
+    (λ c. search needs)
+    returns)

@@ -17,8 +17,26 @@ returns c =
     let n = p .before .before .before .before in
     let b = n .before .before .before .before in
     let a = b .before .before .before .before in
+    let built = rw (a .before .before .build-code .ensures) at (k .put-byte .ensures) in
     written (Install _) _ _ (a .put-frame .ensures)
-    (wrote-then (wrote-then (wrote-then (wrote-then (wrote-then (b .put-node .ensures) (n .put-be .ensures)) (p .put-pair .ensures)) (rw (a .before .before .build-code .ensures) at (k .put-byte .ensures))) (i .put-flag .ensures)) (l .put-be2 .ensures)) (omega arith) (omega arith)
+    (wrote-then
+    (wrote-then (wrote-then (wrote-then (wrote-then (b .put-node .ensures) (n .put-be .ensures)) (p .put-pair .ensures)) built) (i .put-flag .ensures))
+    (l .put-be2 .ensures))
+    (omega arith)
+    (omega arith)
 
 pub put-install-spec : {M : Type 1} → statement M
-put-install-spec = tie.close (tie.spec (λ c κs. search needs) (λ c. search needs) (λ c κs. search needs) (λ c κs. search needs) (λ c κs. search needs) (λ c κs. search needs) (λ c κs. search needs) (λ c κs. search needs) (λ c κs. search needs) (λ c. search needs) returns)
+put-install-spec =
+    tie.close
+    (tie.spec
+    (λ c κs. search needs)
+    (λ c. search needs)
+    (λ c κs. search needs)
+    (λ c κs. search needs)
+    (λ c κs. search needs)
+    (λ c κs. search needs)
+    (λ c κs. search needs)
+    (λ c κs. search needs)
+    (λ c κs. search needs)
+    (λ c. search needs)
+    returns)

@@ -16,7 +16,23 @@ returns c =
     let p = s .before .before .before .before in
     let b = p .before .before .before .before in
     let a = b .before .before .before .before in
-    written (Reject (some _) _) _ _ (a .put-frame .ensures) (wrote-then (wrote-then (wrote-then (b .put-byte .ensures) (p .put-node .ensures)) (rw (a .before .before .before .source-code .ensures) at (s .put-byte2 .ensures))) (rw (a .before .before .denial-code .ensures) at (d .put-byte3 .ensures))) refl refl
+    let source = rw (a .before .before .before .source-code .ensures) at (s .put-byte2 .ensures) in
+    let reason = rw (a .before .before .denial-code .ensures) at (d .put-byte3 .ensures) in
+    written (Reject (some _) _) _ _ (a .put-frame .ensures)
+    (wrote-then (wrote-then (wrote-then (b .put-byte .ensures) (p .put-node .ensures)) source) reason)
+    refl
+    refl
 
 pub put-reject-asked-spec : {M : Type 1} → statement M
-put-reject-asked-spec = tie.close (tie.spec (λ c κs. search needs) (λ c κs. search needs) (λ c κs. search needs) (λ c κs. search needs) (λ c κs. search needs) (λ c κs. search needs) (λ c κs. search needs) (λ c. search needs) returns)
+put-reject-asked-spec =
+    tie.close
+    (tie.spec
+    (λ c κs. search needs)
+    (λ c κs. search needs)
+    (λ c κs. search needs)
+    (λ c κs. search needs)
+    (λ c κs. search needs)
+    (λ c κs. search needs)
+    (λ c κs. search needs)
+    (λ c. search needs)
+    returns)

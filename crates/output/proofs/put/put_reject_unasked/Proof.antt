@@ -17,4 +17,12 @@ returns c =
     written (Reject none _) _ _ (a .put-frame .ensures) (wrote-then (b .put-byte .ensures) (rw (a .before .before .denial-code .ensures) at (d .put-byte2 .ensures))) refl refl
 
 pub put-reject-unasked-spec : {M : Type 1} → statement M
-put-reject-unasked-spec = tie.close (tie.spec (λ c κs. search needs) (λ c κs. search needs) (λ c κs. search needs) (λ c κs. search needs) (λ c. search needs) returns)
+put-reject-unasked-spec =
+    tie.close
+    (tie.spec
+    (λ c κs. search needs)
+    (λ c κs. search needs)
+    (λ c κs. search needs)
+    (λ c κs. search needs)
+    (λ c. search needs)
+    returns)

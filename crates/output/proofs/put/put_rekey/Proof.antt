@@ -17,4 +17,12 @@ returns c =
     written (Rekey _ _ _) _ _ (a .put-frame .ensures) (wrote-then (wrote-then (b .put-node .ensures) (f .put-flag .ensures)) (g .put-flag2 .ensures)) refl refl
 
 pub put-rekey-spec : {M : Type 1} → statement M
-put-rekey-spec = tie.close (tie.spec (λ c κs. search needs) (λ c κs. search needs) (λ c κs. search needs) (λ c κs. search needs) (λ c. search needs) returns)
+put-rekey-spec =
+    tie.close
+    (tie.spec
+    (λ c κs. search needs)
+    (λ c κs. search needs)
+    (λ c κs. search needs)
+    (λ c κs. search needs)
+    (λ c. search needs)
+    returns)

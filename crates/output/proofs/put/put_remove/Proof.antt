@@ -16,4 +16,12 @@ returns c =
     written (Output.Remove _ _) _ _ (a .put-frame .ensures) (wrote-then (b .put-node .ensures) (rw (a .before .before .why-code .ensures) at (k .put-byte .ensures))) refl refl
 
 pub put-remove-spec : {M : Type 1} → statement M
-put-remove-spec = tie.close (tie.spec (λ c κs. search needs) (λ c κs. search needs) (λ c κs. search needs) (λ c κs. search needs) (λ c. search needs) returns)
+put-remove-spec =
+    tie.close
+    (tie.spec
+    (λ c κs. search needs)
+    (λ c κs. search needs)
+    (λ c κs. search needs)
+    (λ c κs. search needs)
+    (λ c. search needs)
+    returns)

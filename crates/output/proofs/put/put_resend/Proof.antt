@@ -16,4 +16,12 @@ returns c =
     written (Resend _ _) _ _ (a .put-frame .ensures) (wrote-then (b .put-be .ensures) (m .put-message .ensures)) (omega arith) (omega arith)
 
 pub put-resend-spec : {M : Type 1} → statement M
-put-resend-spec = tie.close (tie.spec (λ c. search needs) (λ c κs. search needs) (λ c κs. search needs) (λ c κs. search needs) (λ c. search needs) returns)
+put-resend-spec =
+    tie.close
+    (tie.spec
+    (λ c. search needs)
+    (λ c κs. search needs)
+    (λ c κs. search needs)
+    (λ c κs. search needs)
+    (λ c. search needs)
+    returns)

@@ -16,4 +16,12 @@ returns c =
     written (Reset _ _) _ _ (a .put-frame .ensures) (wrote-then (b .put-node .ensures) (rw (a .before .before .transition-code .ensures) at (k .put-byte .ensures))) refl refl
 
 pub put-reset-spec : {M : Type 1} → statement M
-put-reset-spec = tie.close (tie.spec (λ c κs. search needs) (λ c κs. search needs) (λ c κs. search needs) (λ c κs. search needs) (λ c. search needs) returns)
+put-reset-spec =
+    tie.close
+    (tie.spec
+    (λ c κs. search needs)
+    (λ c κs. search needs)
+    (λ c κs. search needs)
+    (λ c κs. search needs)
+    (λ c. search needs)
+    returns)
