@@ -1,4 +1,4 @@
--- Parts of parts, and what a comparison of whole buffers says of what is in use.
+-- Parts of parts, runs in two parts, and what a comparison of whole buffers says of what is in use.
 use mathlib.Core.Path.{_≡_, refl, sym, ap, _∙_}
 use mathlib.Core.Bool.{Bool, true, false, _&&_}
 use mathlib.Core.List.{[], _∷_}
