@@ -9,17 +9,17 @@ use borrow.Author.Needs.{needs}
 use borrow.Author.Tests.{eq-eqb, ne-eqb}
 use lib.Dec.{eqb, lit≤, lit<}
 use lib.Seq.{getD-take, getD-drop, take-take}
-use lib.ListN.{length, take, drop, getD, replicate}
+use lib.ListN.{length, take, drop, getD}
 use Rattle.rules.specs.Base.{if_then_else_, Bytes, empty, any}
-use Rattle.rules.specs.Data.{Pair, samePair, Dir, Inbound, Outbound, Holder, ALeg, APeer, Proven, Live, Acked, Probing, PathRec, LinkRec}
-use Rattle.rules.specs.Links.{numbered, counts, isLeg, pathAt, provenAt, uses, indexed}
-use Rattle.laws.specs.Shift.{Kept, erase, shown, fit-at}
+use Rattle.rules.specs.Data.{Pair, samePair, Inbound, Outbound, ALeg, APeer, Proven, PathRec, LinkRec}
+use Rattle.rules.specs.Links.{counts, isLeg, pathAt, provenAt, uses, indexed}
+use Rattle.laws.specs.Shift.{erase, shown, fit-at}
 use Rattle.laws.specs.Cell.{num, byteOf, flagOf}
 use Rattle.laws.specs.Chunk.{chunks}
 use Rattle.laws.specs.Fields.{cuts, cuts-at, field-at, sum}
-use Rattle.laws.specs.Store.{Store, entries, entries-count}
+use Rattle.laws.specs.Store.{entries-count}
 use Rattle.node_addr.specs.Place.{pairOf, PairCell}
-use Rattle.links.specs.View.{stateOf, pathOf, FitPath, viewPaths, FitPaths, pathCount, linkWs, dirOf, holderOf, linkFrom, linkOf, FitFields, FitLink, viewLinks, FitLinks, linkCount, noLink, noPath, outward}
+use Rattle.links.specs.View.{stateOf, pathOf, FitPath, viewPaths, FitPaths, pathCount, linkWs, dirOf, holderOf, linkFrom, linkOf, FitFields, viewLinks, FitLinks, linkCount, noLink, noPath, outward}
 use Rattle.links.specs.Asking.{or-true, or-false, and-true, and-false, not-true, not-false, Sifted, sifted-drop, sifted-pass}
 
 module _ {s : Bytes} {i : ℕ} (f : FitLinks s) (h : i < linkCount s) where
@@ -173,9 +173,9 @@ pub ruleset reading = (needs, no-is, setup-cell, setup-shows, setup-same, outbou
 
 -- ---- uses and indexed, by what the code asks
 module _ (p : Pair) (r : LinkRec) {b : Bool} (e : b ≡ any (provenAt p) (r .paths)) where
-  pub uses-path : b ≡ true → true ≡ uses p r
+  pub uses-path : b ≡ true → b ≡ uses p r
   unfolding uses
-  uses-path t = sym (rw (← e, t) (or-true (samePair p (r .setup) && (empty (r .paths) || isLeg (r .holder)))))
+  uses-path t = t ∙ sym (rw (← e, t) (or-true (samePair p (r .setup) && (empty (r .paths) || isLeg (r .holder)))))
 
   pub uses-nothing : {w : Bool} → b ≡ false → w ≡ (empty (r .paths) || isLeg (r .holder)) → not w ≡ true → false ≡ uses p r
   unfolding uses
@@ -189,9 +189,9 @@ module _ (p : Pair) (r : LinkRec) {b : Bool} (e : b ≡ any (provenAt p) (r .pat
   unfolding indexed
   indexed-path t = sym (rw (← e, t) (or-true (samePair p (r .setup) && not (r .released))))
 
-  pub indexed-nothing : {w : Bool} → b ≡ false → w ≡ r .released → w ≡ true → false ≡ indexed p r
+  pub indexed-nothing : {w : Bool} → b ≡ false → w ≡ r .released → w ≡ true → not w ≡ indexed p r
   unfolding indexed
-  indexed-nothing {w} t q n = sym (rw (← e, t, ← q, n) (rw (and-false (samePair p (r .setup)))))
+  indexed-nothing {w} t q n = ap not n ∙ sym (rw (← e, t, ← q, n) (rw (and-false (samePair p (r .setup)))))
 
   pub indexed-setup : {w x : Bool} → b ≡ false → w ≡ r .released → w ≡ false → x ≡ samePair p (r .setup) → x ≡ indexed p r
   unfolding indexed

@@ -14,16 +14,15 @@ use node_addr::Pair;
 use node_addr::place::load_pair;
 use node_addr::place::pair_here;
 ghost use mathlib.Core.Path.{_≡_};
-ghost use mathlib.Core.Bool.{not, _&&_, _||_};
-ghost use Prim.Native.Nat.{_+_, _*_, _≤_, _<_};
-ghost use lib.Dec.{eqb};
-ghost use lib.ListN.{length, take, drop, getD};
+ghost use mathlib.Core.Bool.{_||_};
+ghost use Prim.Native.Nat.{_<_};
+ghost use lib.ListN.{length, getD};
 ghost use Rattle.rules.specs.Base.{any, empty};
-ghost use Rattle.rules.specs.Data.{samePair, Outbound};
+ghost use Rattle.rules.specs.Data.{samePair};
 ghost use Rattle.rules.specs.Links.{numbered, isLeg, provenAt, uses, inUse, indexed};
 ghost use Rattle.laws.specs.Scan.{scan};
 ghost use Rattle.node_addr.specs.View.{FitPair, viewPair, Finds};
-ghost use Rattle.links.specs.View.{outward, FitLinks, viewLinks, linkCount, noLink, dirCode, dirOf, viewDir, viewLink, FitRec, full, crowding};
+ghost use Rattle.links.specs.View.{outward, FitLinks, viewLinks, linkCount, noLink, dirOf, viewDir, viewLink, FitRec, full, crowding};
 
 // How many there are.
 pub fn link_count(s: &[u8]) -> usize
@@ -90,7 +89,7 @@ pub fn outbound_at(s: &[u8], i: usize) -> bool
 }
 
 // Whether the bundle of the link at a place released its setup.
-pub fn released_at(s: &[u8], i: usize) -> bool
+pub(crate) fn released_at(s: &[u8], i: usize) -> bool
     requires { ⌜ FitLinks (now s) ⌝ }
     requires { ⌜ i < linkCount (now s) ⌝ }
     ensures { λ r. ⌜ r ≡ getD (viewLinks (now (s .entry))) i noLink .released ⌝ }
@@ -129,8 +128,9 @@ pub fn uses_at(s: &[u8], i: usize, p: Pair) -> bool
     requires { ⌜ FitPair p ⌝ }
     ensures { λ r. ⌜ r ≡ uses (viewPair p) (getD (viewLinks (now (s .entry))) i noLink) ⌝ }
 {
-    if proven_at(s, i, p) {
-        return true;
+    let used = proven_at(s, i, p);
+    if used {
+        return used;
     }
     if !waits_at(s, i) {
         return false;
@@ -148,8 +148,9 @@ pub fn indexed_at(s: &[u8], i: usize, p: Pair) -> bool
     if proven_at(s, i, p) {
         return true;
     }
-    if released_at(s, i) {
-        return false;
+    let gone = released_at(s, i);
+    if gone {
+        return !gone;
     }
     setup_is(s, i, p)
 }

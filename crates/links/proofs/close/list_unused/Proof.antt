@@ -1,22 +1,18 @@
+-- `links::close::list_unused` meets its contract.
 use borrow.Author.Needs.{needs}
+use mathlib.Core.Path.{_∙_, sym}
 use Rattle.links.proofs.close.list_unused.Statement.{statement}
 use Rattle.links.proofs.close.list_unused.Tie as tie
-use Rattle.links.proofs.close.list_unused.Reads as reads
-use Rattle.links.proofs.close.list_unused.Lts as lts
-use Rattle.links.proofs.close.push.Reads as push-reads
-use Rattle.links.proofs.read.in_use.Reads as in-use-reads
-
-in-use-requires : tie.Need-in-use-requires
-in-use-requires c κs = search needs
-
-push-requires : tie.Need-push-requires
-push-requires c κs = search needs
 
 returns : tie.Need-returns
-returns c = search needs
+returns c = (c .before .before .before .pre .1 .0, (search needs, sym (rw (← c .before .in-use .ensures, c .if1 .taken))))
 
 returns-2 : tie.Need-returns-2
-returns-2 c = search needs
+returns-2 c = (c .push .ensures .0, (search needs, c .push .ensures .1 .1 ∙ sym (rw (← c .before .before .in-use .ensures, c .before .if1 .left))))
 
 pub list-unused-spec : {M : Type 1} → statement M
-list-unused-spec = tie.close (tie.spec in-use-requires push-requires returns returns-2)
+list-unused-spec = tie.close (tie.spec
+    (λ c κs. search needs)
+    (λ c κs. search needs)
+    returns
+    returns-2)

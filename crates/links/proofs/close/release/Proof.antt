@@ -1,57 +1,35 @@
+-- `links::close::release` meets its contract.
+use Rattle.laws.specs.Store.{entry-within}
+use Rattle.links.specs.Change.{release-done, release-none}
+use Rattle.links.specs.Close.{releasing-is, releasing-kept, releasing-none}
+use Rattle.links.specs.View.{linkOf}
+use Rattle.node_addr.specs.View.{finds-at, finds-none, viewPair}
 use borrow.Author.Needs.{needs}
 use Rattle.links.proofs.close.release.Statement.{statement}
 use Rattle.links.proofs.close.release.Tie as tie
-use Rattle.links.proofs.close.release.Reads as reads
-use Rattle.links.proofs.close.release.Lts as lts
-use Rattle.links.proofs.read.find_link.Reads as find-link-reads
-use Rattle.links.proofs.read.in_use.Reads as in-use-reads
-use Rattle.links.proofs.write.release_at.Reads as release-at-reads
-
-find-link-requires : tie.Need-find-link-requires
-find-link-requires c κs = search needs
-
-enum-known-i : tie.Need-enum-known-i
-enum-known-i c = search needs
-
-enum-told : tie.Need-enum-told
-enum-told c = search needs
-
-same-length : tie.Need-same-length
-same-length c = search needs
 
 returns : tie.Need-returns
-returns c = search needs
+returns c = (c .before .before .before .before .before .pre .0, (release-none _ _ (finds-none (c .before .before .find-link .ensures) (c .enum-told .given .1)) _, releasing-none _ _ _ _ (finds-none (c .before .before .find-link .ensures) (c .enum-told .given .1))))
 
 release-at-requires : tie.Need-release-at-requires
-release-at-requires c κs = search needs
-
-same-length-2 : tie.Need-same-length-2
-same-length-2 c = search needs
+release-at-requires c κs = (c .before .before .before .before .before .before .before .pre .0, (entry-within linkOf (c .before .before .before .before .before .before .before .pre .0) _ _ (finds-at (c .before .before .before .before .find-link .ensures) (c .before .before .i .given .1)), c .before .before .before .before .before .before .before .pre .1))
 
 returns-2 : tie.Need-returns-2
-returns-2 c = search needs
-
-in-use-requires : tie.Need-in-use-requires
-in-use-requires c κs = search needs
-
-same-length-3 : tie.Need-same-length-3
-same-length-3 c = search needs
+returns-2 c = (c .before .before .before .release-at .ensures .0, (release-done _ _ (finds-at (c .before .before .before .before .before .before .before .before .find-link .ensures) (c .before .before .before .before .before .before .i .given .1)) _ (c .before .before .before .release-at .ensures .1), releasing-kept _ _ _ (c .if1 .taken)))
 
 returns-3 : tie.Need-returns-3
-returns-3 c = search needs
+returns-3 c = let d = release-done _ _ (finds-at (c .before .before .before .before .before .before .before .before .before .before .find-link .ensures) (c .before .before .before .before .before .before .before .before .i .given .1)) (viewPair (c .before .before .before .before .before .before .before .before .before .before .before .before .before .args .p)) (c .before .before .before .before .before .release-at .ensures .1) in (c .before .before .before .before .before .release-at .ensures .0, (d, releasing-is _ _ _ (finds-at (c .before .before .before .before .before .before .before .before .before .before .find-link .ensures) (c .before .before .before .before .before .before .before .before .i .given .1)) (c .before .before .if1 .left) d (c .in-use .ensures)))
 
 pub release-spec : {M : Type 1} → statement M
-release-spec =
-    tie.close
-    (tie.spec
-    find-link-requires
-    enum-known-i
-    enum-told
-    same-length
+release-spec = tie.close (tie.spec
+    (λ c κs. search needs)
+    (λ c. search needs)
+    (λ c. search needs)
+    (λ c. search needs)
     returns
     release-at-requires
-    same-length-2
+    (λ c. search needs)
     returns-2
-    in-use-requires
-    same-length-3
+    (λ c κs. search needs)
+    (λ c. search needs)
     returns-3)
