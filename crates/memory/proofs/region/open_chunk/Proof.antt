@@ -1,0 +1,22 @@
+use Rattle.laws.specs.Store.{chunking}
+use Rattle.memory.proofs.region.open_chunk.Statement.{statement}
+use Rattle.memory.proofs.region.open_chunk.Tie as tie
+
+pub open-chunk-spec : {M : Type 1} → statement M
+open-chunk-spec =
+    tie.close
+    (tie.spec
+    (λ c. search chunking)
+    (λ c. search chunking)
+    (λ c. search chunking)
+    (λ c. search chunking)
+    (λ c. search chunking)
+    (λ c. search chunking)
+    (λ c. search chunking)
+    (λ c. search chunking)
+    (λ c κs. search chunking)
+    (λ c. search chunking)
+    (λ c. search chunking)
+    (λ c. search chunking)
+    (λ c. search chunking)
+    (λ c. search chunking))

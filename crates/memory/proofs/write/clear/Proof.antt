@@ -1,0 +1,26 @@
+use Prim.Native.Nat.{_-_}
+use Rattle.laws.specs.Move.{Clearing, moving}
+use Rattle.memory.proofs.write.clear.Statement.{statement}
+use Rattle.memory.proofs.write.clear.Tie as tie
+
+abbrev Inv-loop : tie.InvT-loop
+Inv-loop s₀ at n i₀ s i = Clearing s₀ at n s i
+
+abbrev μ-loop : tie.MeasureT-loop
+μ-loop s₀ at n i₀ s i = n - i
+
+pub clear-spec : {M : Type 1} → statement M
+clear-spec =
+    tie.close
+    (tie.spec
+    Inv-loop
+    μ-loop
+    (λ c. search moving)
+    (λ c. search moving)
+    (λ c. search moving)
+    (λ c. search moving)
+    (λ c. search moving)
+    (λ c. search moving)
+    (λ c. search moving)
+    (λ c. search moving)
+    (λ c. search moving))

@@ -1,0 +1,26 @@
+use Rattle.laws.specs.Splice.{Putting, writing}
+use Rattle.memory.proofs.write.put_be.Statement.{statement}
+use Rattle.memory.proofs.write.put_be.Tie as tie
+
+abbrev Inv-loop : tie.InvT-loop
+Inv-loop s₀ at v n i₀ w₀ s i w = Putting s₀ at n v s i w
+
+abbrev μ-loop : tie.MeasureT-loop
+μ-loop s₀ at v n i₀ w₀ s i w = i
+
+pub put-be-spec : {M : Type 1} → statement M
+put-be-spec =
+    tie.close
+    (tie.spec
+    Inv-loop
+    μ-loop
+    (λ c. search writing)
+    (λ c. search writing)
+    (λ c. search writing)
+    (λ c. search writing)
+    (λ c. search writing)
+    (λ c. search writing)
+    (λ c. search writing)
+    (λ c. search writing)
+    (λ c. search writing)
+    (λ c. search writing))

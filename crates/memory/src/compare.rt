@@ -1,0 +1,114 @@
+// Runs of bytes compared where they stand: whether they are the same, and their order.
+use crate::read::get_8;
+ghost use mathlib.Core.Path.{_≡_};
+ghost use Prim.Native.Nat.{_+_, _≤_};
+ghost use lib.ListN.{length, take, drop};
+ghost use Rattle.rules.specs.Base.{same};
+ghost use Rattle.rules.specs.Std.{before};
+
+// Whether n bytes of two slices are the same, byte by byte.
+fn same_rest(s: &[u8], at: usize, t: &[u8], from: usize, n: usize) -> bool
+    requires { ⌜ at + n ≤ length (now s) ⌝ }
+    requires { ⌜ from + n ≤ length (now t) ⌝ }
+    ensures { λ r. ⌜ r ≡ same (take n (drop at (now (s .entry)))) (take n (drop from (now (t .entry)))) ⌝ }
+{
+    let mut i = 0;
+    while i < n {
+        if s[at + i] != t[from + i] {
+            return false;
+        }
+        i += 1;
+    }
+    true
+}
+
+// Whether n bytes of two slices are the same: eight at a time, and then the rest.
+pub fn same_run(s: &[u8], at: usize, t: &[u8], from: usize, n: usize) -> bool
+    requires { ⌜ at + n ≤ length (now s) ⌝ }
+    requires { ⌜ from + n ≤ length (now t) ⌝ }
+    ensures { λ r. ⌜ r ≡ same (take n (drop at (now (s .entry)))) (take n (drop from (now (t .entry)))) ⌝ }
+{
+    let mut i = 0;
+    while 8 <= n - i {
+        if get_8(s, at + i) != get_8(t, from + i) {
+            return false;
+        }
+        i += 8;
+    }
+    same_rest(s, at + i, t, from + i, n - i)
+}
+
+// Whether 16 bytes of a slice come before 16 bytes of another: the first that differ decide.
+pub fn before_run(s: &[u8], at: usize, t: &[u8], from: usize) -> bool
+    requires { ⌜ at + 16 ≤ length (now s) ⌝ }
+    requires { ⌜ from + 16 ≤ length (now t) ⌝ }
+    ensures { λ r. ⌜ r ≡ before (take 16 (drop at (now (s .entry)))) (take 16 (drop from (now (t .entry)))) ⌝ }
+{
+    let a = get_8(s, at);
+    let b = get_8(t, from);
+    if a != b {
+        return a < b;
+    }
+    let c = get_8(s, at + 8);
+    let d = get_8(t, from + 8);
+    c < d
+}
+
+// Whether two runs of one slice are the same.
+pub fn same_within(s: &[u8], at: usize, from: usize, n: usize) -> bool
+    requires { ⌜ at + n ≤ length (now s) ⌝ }
+    requires { ⌜ from + n ≤ length (now s) ⌝ }
+    ensures { λ r. ⌜ r ≡ same (take n (drop at (now (s .entry)))) (take n (drop from (now (s .entry)))) ⌝ }
+{
+    same_run(s, at, s, from, n)
+}
+
+// Whether a key of 16 bytes stands at a place.
+pub fn same_16(key: [u8; 16], s: &[u8], at: usize) -> bool
+    requires { ⌜ at + 16 ≤ length (now s) ⌝ }
+    ensures { λ r. ⌜ r ≡ same key (take 16 (drop at (now (s .entry)))) ⌝ }
+{
+    same_run(&key, 0, s, at, 16)
+}
+
+// Whether a key of 32 bytes stands at a place.
+pub fn same_32(key: [u8; 32], s: &[u8], at: usize) -> bool
+    requires { ⌜ at + 32 ≤ length (now s) ⌝ }
+    ensures { λ r. ⌜ r ≡ same key (take 32 (drop at (now (s .entry)))) ⌝ }
+{
+    same_run(&key, 0, s, at, 32)
+}
+
+// Whether the first n of 48 bytes stand at a place.
+pub fn same_48(b: [u8; 48], n: usize, s: &[u8], at: usize) -> bool
+    requires { ⌜ n ≤ 48 ⌝ }
+    requires { ⌜ at + n ≤ length (now s) ⌝ }
+    ensures { λ r. ⌜ r ≡ same (take n b) (take n (drop at (now (s .entry)))) ⌝ }
+{
+    same_run(&b, 0, s, at, n)
+}
+
+// Whether the first n of 128 bytes stand at a place.
+pub fn same_128(b: [u8; 128], n: usize, s: &[u8], at: usize) -> bool
+    requires { ⌜ n ≤ 128 ⌝ }
+    requires { ⌜ at + n ≤ length (now s) ⌝ }
+    ensures { λ r. ⌜ r ≡ same (take n b) (take n (drop at (now (s .entry)))) ⌝ }
+{
+    same_run(&b, 0, s, at, n)
+}
+
+// Whether a key of 16 bytes comes before the one at a place.
+pub fn before_16(key: [u8; 16], s: &[u8], at: usize) -> bool
+    requires { ⌜ at + 16 ≤ length (now s) ⌝ }
+    ensures { λ r. ⌜ r ≡ before key (take 16 (drop at (now (s .entry)))) ⌝ }
+{
+    before_run(&key, 0, s, at)
+}
+
+// Whether a key of 16 bytes comes after the one at a place.
+pub fn after_16(key: [u8; 16], s: &[u8], at: usize) -> bool
+    requires { ⌜ at + 16 ≤ length (now s) ⌝ }
+    ensures { λ r. ⌜ r ≡ before (take 16 (drop at (now (s .entry)))) key ⌝ }
+{
+    before_run(s, at, &key, 0)
+}

@@ -1,0 +1,118 @@
+// Numbers and runs of bytes written at a place of a lent slice; bytes moved and cleared. A writer answers the place after what it wrote.
+ghost use mathlib.Core.Path.{_≡_};
+ghost use mathlib.Core.List.{List, [], _∷_};
+ghost use Prim.Native.Nat.{ℕ, _+_, _≤_, _<_};
+ghost use lib.ListN.{length, take, drop, replicate};
+ghost use Rattle.rules.specs.Field.{digits};
+ghost use Rattle.laws.specs.Splice.{splice, Wrote};
+
+// One byte.
+pub fn put_byte(s: &mut [u8], at: usize, v: u8) -> usize
+    requires { ⌜ at < length (now s) ⌝ }
+    ensures { λ r. ⌜ Wrote (now (s .entry)) at 1 (v ∷ []) (now (s .exit)) r ⌝ }
+{
+    s[at] = v;
+    at + 1
+}
+
+// The last n bytes of a number, the most significant first.
+pub fn put_be(s: &mut [u8], at: usize, v: u64, n: usize) -> usize
+    requires { ⌜ at + n ≤ length (now s) ⌝ }
+    ensures { λ r. ⌜ Wrote (now (s .entry)) at n (digits n v) (now (s .exit)) r ⌝ }
+{
+    let mut i = n;
+    let mut w = v;
+    while 0 < i {
+        i -= 1;
+        s[at + i] = (w % 256) as u8;
+        w = w / 256;
+    }
+    at + n
+}
+
+// n bytes of another slice, from a place there.
+pub fn put_run(s: &mut [u8], at: usize, t: &[u8], from: usize, n: usize) -> usize
+    requires { ⌜ at + n ≤ length (now s) ⌝ }
+    requires { ⌜ from + n ≤ length (now t) ⌝ }
+    ensures { λ r. ⌜ Wrote (now (s .entry)) at n (take n (drop from (now (t .entry)))) (now (s .exit)) r ⌝ }
+{
+    let mut i = 0;
+    while i < n {
+        s[at + i] = t[from + i];
+        i += 1;
+    }
+    at + n
+}
+
+// 16 bytes.
+pub fn put_16(s: &mut [u8], at: usize, b: [u8; 16]) -> usize
+    requires { ⌜ at + 16 ≤ length (now s) ⌝ }
+    ensures { λ r. ⌜ Wrote (now (s .entry)) at 16 b (now (s .exit)) r ⌝ }
+{
+    put_run(s, at, &b, 0, 16)
+}
+
+// 32 bytes.
+pub fn put_32(s: &mut [u8], at: usize, b: [u8; 32]) -> usize
+    requires { ⌜ at + 32 ≤ length (now s) ⌝ }
+    ensures { λ r. ⌜ Wrote (now (s .entry)) at 32 b (now (s .exit)) r ⌝ }
+{
+    put_run(s, at, &b, 0, 32)
+}
+
+// The first n of 48 bytes.
+pub fn put_48(s: &mut [u8], at: usize, b: [u8; 48], n: usize) -> usize
+    requires { ⌜ n ≤ 48 ⌝ }
+    requires { ⌜ at + n ≤ length (now s) ⌝ }
+    ensures { λ r. ⌜ Wrote (now (s .entry)) at n (take n b) (now (s .exit)) r ⌝ }
+{
+    put_run(s, at, &b, 0, n)
+}
+
+// The first n of 128 bytes.
+pub fn put_128(s: &mut [u8], at: usize, b: [u8; 128], n: usize) -> usize
+    requires { ⌜ n ≤ 128 ⌝ }
+    requires { ⌜ at + n ≤ length (now s) ⌝ }
+    ensures { λ r. ⌜ Wrote (now (s .entry)) at n (take n b) (now (s .exit)) r ⌝ }
+{
+    put_run(s, at, &b, 0, n)
+}
+
+// n bytes from `from` down to `to`.
+pub fn move_down(s: &mut [u8], from: usize, to: usize, n: usize)
+    requires { ⌜ to ≤ from ⌝ }
+    requires { ⌜ from + n ≤ length (now s) ⌝ }
+    ensures { λ r. ⌜ now (s .exit) ≡ splice (now (s .entry)) to (take n (drop from (now (s .entry)))) ⌝ }
+{
+    let mut i = 0;
+    while i < n {
+        s[to + i] = s[from + i];
+        i += 1;
+    }
+}
+
+// n bytes from `from` up to `to`.
+pub fn move_up(s: &mut [u8], from: usize, to: usize, n: usize)
+    requires { ⌜ from ≤ to ⌝ }
+    requires { ⌜ to + n ≤ length (now s) ⌝ }
+    ensures { λ r. ⌜ now (s .exit) ≡ splice (now (s .entry)) to (take n (drop from (now (s .entry)))) ⌝ }
+{
+    let mut i = n;
+    while 0 < i {
+        i -= 1;
+        s[to + i] = s[from + i];
+    }
+}
+
+// n zeros.
+pub fn clear(s: &mut [u8], at: usize, n: usize) -> usize
+    requires { ⌜ at + n ≤ length (now s) ⌝ }
+    ensures { λ r. ⌜ Wrote (now (s .entry)) at n (replicate n 0) (now (s .exit)) r ⌝ }
+{
+    let mut i = 0;
+    while i < n {
+        s[at + i] = 0;
+        i += 1;
+    }
+    at + n
+}

@@ -1,0 +1,20 @@
+use mathlib.Core.Path.{_≡_}
+use lib.ListN.{length, take, drop}
+use native.Mathlib.Omega.{arith}
+use Rattle.node_addr.specs.Alike.{before-front}
+use borrow.Author.Needs.{needs}
+use Rattle.node_addr.proofs.place.before_here.Statement.{statement}
+use Rattle.node_addr.proofs.place.before_here.Tie as tie
+
+before-run-requires : tie.Need-before-run-requires
+before-run-requires c κs =
+    let x : length (c .before .before .before .args .n .0) ≡ 16 = search needs in
+    (omega arith, omega arith)
+
+returns : tie.Need-returns
+returns c =
+    let v = c .before .before .before .before .args in
+    before-front 16 (v .n .0) (take 16 (drop (v .at) (v .s .now))) (search needs) (c .before-run .ensures)
+
+pub before-here-spec : {M : Type 1} → statement M
+before-here-spec = tie.close (tie.spec (λ c. search needs) before-run-requires returns)

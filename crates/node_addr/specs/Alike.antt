@@ -1,0 +1,63 @@
+-- Parts of parts, and what a comparison of whole buffers says of what is in use.
+use mathlib.Core.Path.{_≡_, refl, sym, ap, _∙_}
+use mathlib.Core.Bool.{Bool, true, false}
+use mathlib.Core.List.{[], _∷_}
+use Prim.Native.Nat.{ℕ, zero, suc, _+_, _≤_}
+use native.Mathlib.Nat.{add-zero}
+use native.Mathlib.Omega.{arith}
+use borrow.Author.Tests.{eq-eqb, ne-eqb}
+use lib.Dec.{lit<}
+use lib.Seq.{getD-take, getD-drop, take-take, take-all}
+use lib.ListN.{length, take, drop, getD, take-append-drop}
+use Rattle.rules.specs.Base.{Bytes, same}
+use Rattle.rules.specs.Std.{before}
+use Rattle.rules.specs.Data.{Pair, samePair}
+use Rattle.laws.specs.Shift.{Kept}
+use Rattle.laws.specs.Buffer.{Any, kept-length}
+use Rattle.laws.specs.Beside.{same-yes, same-no, same-true, same-apart}
+
+-- a part of a part
+pub part-of : (o w m : ℕ) (u : Bytes) → o + w ≤ m → take w (drop o (take m u)) ≡ take w (drop o u)
+part-of zero w m u h = take-take w m u (omega arith)
+part-of (suc o) w zero u h = absurd (omega arith)
+part-of (suc o) w (suc m) [] h = refl
+part-of (suc o) w (suc m) (x ∷ u) h = part-of o w m u (omega arith)
+
+-- a byte is a part of one byte
+pub byte-here : (s : Bytes) (at : ℕ) → getD s at 0 ≡ getD (take 1 (drop at s)) 0 0
+byte-here s at = sym (getD-take 1 (drop at s) 0 0 (lit< tt) ∙ getD-drop at s 0 0 ∙ ap (λ (i : ℕ). getD s i 0) (add-zero at))
+
+same-differ : (x y : Bytes) → same x y ≡ false → x ≡ y → ⊥
+same-differ x y e q = let z : _≡_ {A = Bool} true false = sym (same-yes x y q) ∙ e in let u : _≡_ {A = ℕ} 0 1 = cc in omega arith
+
+-- arrays taken whole
+pub same-whole : {r : Bool} (n : ℕ) (x y : Bytes) → length x ≡ n → length y ≡ n → r ≡ same (take n x) (take n y) → r ≡ same x y
+same-whole n x y h k e = e ∙ rw (take-all n x (omega arith), take-all n y (omega arith))
+
+pub same-front : {r : Bool} (n : ℕ) (x y : Bytes) → length x ≡ n → r ≡ same (take n x) y → r ≡ same x y
+same-front n x y h e = e ∙ rw (take-all n x (omega arith))
+
+pub before-front : {r : Bool} (n : ℕ) (x y : Bytes) → length x ≡ n → r ≡ before (take n x) y → r ≡ before x y
+before-front n x y h e = e ∙ rw (take-all n x (omega arith))
+
+pub before-whole : {r : Bool} (n : ℕ) (x y : Bytes) → length x ≡ n → length y ≡ n → r ≡ before (take n x) (take n y) → r ≡ before x y
+before-whole n x y h k e = e ∙ rw (take-all n x (omega arith), take-all n y (omega arith))
+
+-- buffers with as much in use, zeros behind; and with more or less
+pub same-kept : {r : Bool} {cap n m : ℕ} {x y : Bytes} → Kept Any 0 cap n x → Kept Any 0 cap m y → n ≡ m → r ≡ same (take cap x) (take cap y) → r ≡ same (take n x) (take m y)
+same-kept {cap = cap} {n} {m} {x} {y} a b h e = same-whole cap x y (a .size) (b .size) e ∙ rw h (go (same x y) refl)
+  where
+    go : (k : Bool) → same x y ≡ k → k ≡ same (take m x) (take m y)
+    go true q = sym (same-yes (take m x) (take m y) (ap (λ (u : Bytes). take m u) (same-true x y q)))
+    go false q = sym (same-no (take m x) (take m y) (λ f. same-differ x y q (
+        sym (take-append-drop m x) ∙ rw (f, rw h at (a .rest), ← b .rest) (take-append-drop m y))))
+
+pub same-unlike : {cap n m : ℕ} {x y : Bytes} → Kept Any 0 cap n x → Kept Any 0 cap m y → (n ≡ m → ⊥) → false ≡ same (take n x) (take m y)
+same-unlike {cap} {n} {m} {x} {y} a b h = sym (same-apart (take n x) (take m y) (λ e. h (sym (kept-length a) ∙ e ∙ kept-length b)))
+
+-- pairs: the transports, and then the addresses
+pub pair-unlike : (p q : Pair) → (p .transport ≡ q .transport → ⊥) → false ≡ samePair p q
+pair-unlike p q d = rw (ne-eqb (p .transport) (q .transport) d)
+
+pub pair-like : {r : Bool} (p q : Pair) → p .transport ≡ q .transport → r ≡ same (p .addr) (q .addr) → r ≡ samePair p q
+pair-like p q e h = h ∙ sym (rw (eq-eqb (p .transport) (q .transport) e))

@@ -1,0 +1,170 @@
+// Pairs, node addresses, digests and messages at a place of lent memory: read, written, and compared where they stand. A writer answers the place after what it wrote.
+use crate::Addr;
+use crate::Digest;
+use crate::Message;
+use crate::NodeAddr;
+use crate::Pair;
+use crate::TransportId;
+use memory::compare::before_run;
+use memory::compare::same_run;
+use memory::read::get_be;
+use memory::read::get_byte;
+use memory::read::take_16;
+use memory::read::take_32;
+use memory::read::take_48;
+use memory::read::take_128;
+use memory::write::put_16;
+use memory::write::put_32;
+use memory::write::put_48;
+use memory::write::put_128;
+use memory::write::put_be;
+use memory::write::put_byte;
+ghost use mathlib.Core.Path.{_≡_};
+ghost use Prim.Native.Nat.{_+_, _≤_};
+ghost use lib.ListN.{length, take, drop};
+ghost use Rattle.rules.specs.Base.{same};
+ghost use Rattle.rules.specs.Std.{before};
+ghost use Rattle.rules.specs.Data.{samePair};
+ghost use Rattle.laws.specs.Splice.{Wrote};
+ghost use Rattle.node_addr.specs.View.{viewPair, viewMessage, FitPair, FitMessage};
+ghost use Rattle.node_addr.specs.Place.{pairOf, pairCell, PairCell, messageOf, messageCell, MessageCell};
+
+pub fn load_node(s: &[u8], at: usize) -> NodeAddr
+    requires { ⌜ at + 16 ≤ length (now s) ⌝ }
+    ensures { λ r. ⌜ r .0 ≡ take 16 (drop at (now (s .entry))) ⌝ }
+{
+    let b = take_16(s, at);
+    NodeAddr(b)
+}
+
+pub fn put_node(s: &mut [u8], at: usize, n: NodeAddr) -> usize
+    requires { ⌜ at + 16 ≤ length (now s) ⌝ }
+    ensures { λ r. ⌜ Wrote (now (s .entry)) at 16 (n .0) (now (s .exit)) r ⌝ }
+{
+    let b = n.0;
+    put_16(s, at, b)
+}
+
+pub fn node_here(s: &[u8], at: usize, n: NodeAddr) -> bool
+    requires { ⌜ at + 16 ≤ length (now s) ⌝ }
+    ensures { λ r. ⌜ r ≡ same (n .0) (take 16 (drop at (now (s .entry)))) ⌝ }
+{
+    let b = n.0;
+    same_run(&b, 0, s, at, 16)
+}
+
+// Whether a node address comes before the one at a place.
+pub fn before_here(s: &[u8], at: usize, n: NodeAddr) -> bool
+    requires { ⌜ at + 16 ≤ length (now s) ⌝ }
+    ensures { λ r. ⌜ r ≡ before (n .0) (take 16 (drop at (now (s .entry)))) ⌝ }
+{
+    let b = n.0;
+    before_run(&b, 0, s, at)
+}
+
+pub fn load_digest(s: &[u8], at: usize) -> Digest
+    requires { ⌜ at + 32 ≤ length (now s) ⌝ }
+    ensures { λ r. ⌜ r .0 ≡ take 32 (drop at (now (s .entry))) ⌝ }
+{
+    let b = take_32(s, at);
+    Digest(b)
+}
+
+pub fn put_digest(s: &mut [u8], at: usize, d: Digest) -> usize
+    requires { ⌜ at + 32 ≤ length (now s) ⌝ }
+    ensures { λ r. ⌜ Wrote (now (s .entry)) at 32 (d .0) (now (s .exit)) r ⌝ }
+{
+    let b = d.0;
+    put_32(s, at, b)
+}
+
+pub fn digest_here(s: &[u8], at: usize, d: Digest) -> bool
+    requires { ⌜ at + 32 ≤ length (now s) ⌝ }
+    ensures { λ r. ⌜ r ≡ same (d .0) (take 32 (drop at (now (s .entry)))) ⌝ }
+{
+    let b = d.0;
+    same_run(&b, 0, s, at, 32)
+}
+
+pub fn load_pair(s: &[u8], at: usize) -> Pair
+    requires { ⌜ at + 53 ≤ length (now s) ⌝ }
+    requires { ⌜ PairCell (take 53 (drop at (now s))) ⌝ }
+    ensures { λ r. ⌜ FitPair r ⌝ }
+    ensures { λ r. ⌜ viewPair r ≡ pairOf (take 53 (drop at (now (s .entry)))) ⌝ }
+{
+    let t = get_be(s, at, 4);
+    let n = get_byte(s, at + 4);
+    let b = take_48(s, at + 5, 48);
+    Pair {
+        transport: TransportId(t as u32),
+        addr: Addr {
+            len: n as usize,
+            bytes: b,
+        },
+    }
+}
+
+pub fn put_pair(s: &mut [u8], at: usize, p: Pair) -> usize
+    requires { ⌜ FitPair p ⌝ }
+    requires { ⌜ at + 53 ≤ length (now s) ⌝ }
+    ensures { λ r. ⌜ Wrote (now (s .entry)) at 53 (pairCell p) (now (s .exit)) r ⌝ }
+{
+    let b = p.addr.bytes;
+    let l = p.addr.len as u8;
+    let t = put_be(s, at, p.transport.0 as u64, 4);
+    let n = put_byte(s, t, l);
+    put_48(s, n, b, 48)
+}
+
+pub fn pair_here(s: &[u8], at: usize, p: Pair) -> bool
+    requires { ⌜ FitPair p ⌝ }
+    requires { ⌜ at + 53 ≤ length (now s) ⌝ }
+    requires { ⌜ PairCell (take 53 (drop at (now s))) ⌝ }
+    ensures { λ r. ⌜ r ≡ samePair (viewPair p) (pairOf (take 53 (drop at (now (s .entry))))) ⌝ }
+{
+    if get_be(s, at, 4) != p.transport.0 as u64 {
+        return false;
+    }
+    if get_byte(s, at + 4) as usize != p.addr.len {
+        return false;
+    }
+    let b = p.addr.bytes;
+    same_run(&b, 0, s, at + 5, 48)
+}
+
+pub fn load_message(s: &[u8], at: usize) -> Message
+    requires { ⌜ at + 129 ≤ length (now s) ⌝ }
+    requires { ⌜ MessageCell (take 129 (drop at (now s))) ⌝ }
+    ensures { λ r. ⌜ FitMessage r ⌝ }
+    ensures { λ r. ⌜ viewMessage r ≡ messageOf (take 129 (drop at (now (s .entry)))) ⌝ }
+{
+    let n = get_byte(s, at);
+    let b = take_128(s, at + 1, 128);
+    Message {
+        len: n as usize,
+        bytes: b,
+    }
+}
+
+pub fn put_message(s: &mut [u8], at: usize, m: Message) -> usize
+    requires { ⌜ FitMessage m ⌝ }
+    requires { ⌜ at + 129 ≤ length (now s) ⌝ }
+    ensures { λ r. ⌜ Wrote (now (s .entry)) at 129 (messageCell m) (now (s .exit)) r ⌝ }
+{
+    let b = m.bytes;
+    let n = put_byte(s, at, m.len as u8);
+    put_128(s, n, b, 128)
+}
+
+pub fn message_here(s: &[u8], at: usize, m: Message) -> bool
+    requires { ⌜ FitMessage m ⌝ }
+    requires { ⌜ at + 129 ≤ length (now s) ⌝ }
+    requires { ⌜ MessageCell (take 129 (drop at (now s))) ⌝ }
+    ensures { λ r. ⌜ r ≡ same (viewMessage m) (messageOf (take 129 (drop at (now (s .entry))))) ⌝ }
+{
+    if get_byte(s, at) as usize != m.len {
+        return false;
+    }
+    let b = m.bytes;
+    same_run(&b, 0, s, at + 1, 128)
+}
