@@ -1,0 +1,4 @@
+pub mod Told
+pub mod Field
+pub mod Call
+pub mod Frame

@@ -1,0 +1,6 @@
+// Records read: the fields of a call and of new, each from the rest of the record.
+pub mod call;
+pub mod field;
+pub mod read;
+pub mod row;
+pub mod shape;
