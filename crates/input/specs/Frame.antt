@@ -96,6 +96,10 @@ stamped now none = refl
 stamped now (some (a, [])) = refl
 stamped now (some (a, b ∷ s)) = refl
 
+clocked : (now : ℕ) (fields : Reader Call) (s : Bytes) → finished (bind fields (λ c. give (record { now = now; call = c })) s) ≡ option (finished (fields s)) none (λ c. some (record { now = now; call = c }))
+unfolding bind
+clocked now fields s = stamped now (fields s)
+
 -- heading, clock and fields, in a row
 pub call-read : {s : Bytes} {k a : ℕ} {ok₁ ok₂ : Bool} {now b : ℕ} {r : readcall.ReadCall} → Stepped heading true 0 s ok₁ k a → Stepped clock ok₁ a s ok₂ now b → Read (kindFields k) now ok₂ b s r
     → (if r .ok then some (timedOf (r .call)) else none) ≡ readCall s
@@ -104,16 +108,12 @@ call-read {s} {k} {a} {ok₁} {ok₂} {now} {b} {r} h t q =
     let f = follows-step (λ v. bind (kindFields k) λ c. give (record { now = v; call = c })) (follows-step timed (follows-start (bind heading timed) true 0 s) h) t in
     sym (framed-is timed s ∙ ap (finished {A = Timed}) (f .is) ∙ go ok₂ (q .is) (r .ok) refl)
   where
-    inner : finished (bind (kindFields k) (λ c. give (record { now = now; call = c })) (drop b s)) ≡ option (finished (kindFields k (drop b s))) none (λ c. some (record { now = now; call = c }))
-    unfolding bind
-    inner = stamped now (kindFields k (drop b s))
-
     say : (g : Bool) → r .ok ≡ g → option (if g then some (callOf (r .call)) else none) none (λ c. some (record { now = now; call = c })) ≡ (if r .ok then some (timedOf (r .call)) else none)
     say true e = rw (e, q .time)
     say false e = rw e
 
     go : (ok : Bool) → finished (if ok then kindFields k (drop b s) else none) ≡ (if r .ok then some (callOf (r .call)) else none) → (g : Bool) → r .ok ≡ g
         → finished (if ok then bind (kindFields k) (λ c. give (record { now = now; call = c })) (drop b s) else none) ≡ (if r .ok then some (timedOf (r .call)) else none)
-    go true e g z = inner ∙ rw e (rw z (rw z at (say g z)))
+    go true e g z = clocked now (kindFields k) (drop b s) ∙ rw e (rw z (rw z at (say g z)))
     go false e true z = absurd (let x : _≡_ {A = ℕ} 0 1 = cc in omega arith)
     go false e false z = rw z
