@@ -2,7 +2,7 @@
 use Prim.Native.Nat.{ℕ, zero, suc, _+_, _*_, _≤_, _<_}
 use mathlib.Core.Path.{_≡_, refl, sym, ap, _∙_}
 use mathlib.Core.List.{List, [], _∷_, _++_, map, append-assoc}
-use native.Mathlib.Nat.{not-suc-le-zero, le-of-suc-le-suc, suc-mul, mul-le-mul-right}
+use native.Mathlib.Nat.{add-zero, not-suc-le-zero, le-of-suc-le-suc, suc-mul, mul-le-mul-right}
 use native.Mathlib.Omega.{arith}
 use lib.Seq.{take-at, drop-at, drop-drop, length-take-le}
 use lib.ListN.{length, take, drop, getD, set, length-append, length-drop, take-append-drop}
@@ -20,6 +20,10 @@ field-at w cap s i d o n p q h =
     rw (chunk-at w cap s i d p)
     (sym (part-append o n (take w (drop (i * w) s)) (drop w (drop (i * w) s)) (omega arith))
     ∙ ap (λ (t : List ℕ). take n (drop o t)) (take-append-drop w (drop (i * w) s)) ∙ rw drop-drop)
+
+-- the first of it
+pub front-at : (w cap : ℕ) (s : List ℕ) (i : ℕ) (d : List ℕ) (n : ℕ) → i < cap → n ≤ w → cap * w ≤ length s → take n (getD (chunks w cap s) i d) ≡ take n (drop (i * w) s)
+front-at w cap s i d n p q h = field-at w cap s i d 0 n p (omega arith) h ∙ rw add-zero
 
 -- ---- fields of given widths: those of ws in a row, the first at b + o
 unfoldable pub sum : List ℕ → ℕ
@@ -78,3 +82,7 @@ pub length-joined : (fs : List (List ℕ)) → length (joined fs) ≡ sum (map l
 unfolding joined sum
 length-joined [] = refl
 length-joined (b ∷ bs) = rw (length-append, length-joined bs)
+
+-- bytes that spell the fields fs show them
+pub cuts-spelt : (fs : List (List ℕ)) (ws c : List ℕ) → map length fs ≡ ws → c ≡ joined fs → cuts 0 0 ws c ≡ fs
+cuts-spelt fs ws c e q = rw (← e, q) (cuts-joined fs)

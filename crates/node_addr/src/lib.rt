@@ -51,9 +51,10 @@ pub fn blank_digest() -> Digest
 pub fn blank_addr() -> Addr
     ensures { λ r. ⌜ r ≡ blankAddr ⌝ }
 {
+    let bytes = [0u8; 48];
     Addr {
         len: 0,
-        bytes: [0u8; 48],
+        bytes: bytes,
     }
 }
 

@@ -1,0 +1,98 @@
+-- The time arithmetic of the code against the rules: the shift, the product that is cut, the step that is halved.
+use mathlib.Core.Path.{_≡_, refl, sym, ap, _∙_}
+use mathlib.Core.Bool.{Bool, true, false, not, _||_}
+use Prim.Native.Nat.{ℕ, zero, suc, _+_, _-_, _*_, _/_, _%_, _^_, _≤_, _<_, min}
+use native.Mathlib.Nat.{le-div-iff-mul-le, div-lt-iff-lt-mul, one-mul, pow-suc}
+use native.Mathlib.Omega.{arith}
+use borrow.Author.Needs.{needs}
+use borrow.Author.Tests.{lt-ltb, le-ltb, ltb-true}
+use mathlib.Core.Option.{none, some}
+use lib.Dec.{ltb, lit<}
+use lib.Pow.{shl-exact, pow-pos}
+use mir.Syntax.{w64}
+use mir.Val.{Fits}
+use Rattle.rules.specs.Base.{option, if_then_else_}
+use Rattle.rules.specs.Std.{fromNanos, durationMax, saturatingSince, checkedShl, u32Max}
+use Rattle.rules.specs.Time as rule
+use Rattle.rules.proofs.Time.{factor, late, ceilingNanos, backoff-nanos, deadline-nanos, resend-nanos, younger-nanos}
+
+-- ---- the factor
+shifted : (e : ℕ) → e < 32 → (1 * 2 ^ e) % 2 ^ 32 ≡ 2 ^ e
+shifted e h = shl-exact {a = 1} 1 e 32 (lit< tt) (omega arith) ∙ one-mul (2 ^ e)
+
+pub factor-shift : (e : ℕ) → e < 32 → ((1 * 2 ^ e) % 2 ^ 32 ≡ option (checkedShl 1 e) u32Max (λ f. f)) × (0 < (1 * 2 ^ e) % 2 ^ 32)
+unfolding checkedShl
+factor-shift e h = (rw (lt-ltb e 32 h), rw (shifted e h) (pow-pos e))
+
+pub factor-most : (e : ℕ) → 32 ≤ e → 4294967295 ≡ option (checkedShl 1 e) u32Max (λ f. f)
+unfolding checkedShl
+factor-most e h = rw (le-ltb e 32 h)
+
+factor-is : (e : ℕ) → option (checkedShl 1 e) u32Max (λ f. f) ≡ factor e
+unfolding checkedShl factor
+factor-is e = go (ltb e 32) refl
+  where
+    go : (x : Bool) → ltb e 32 ≡ x → option (if x then some ((1 * 2 ^ e) % 2 ^ 32) else none) u32Max (λ f. f) ≡ (if x then 2 ^ e else 2 ^ 32 - 1)
+    go true p = shifted e (ltb-true e 32 p)
+    go false p = refl
+
+-- ---- the product that is cut
+module _ (e f base cap : ℕ) (p : f ≡ option (checkedShl 1 e) u32Max (λ f. f)) (q : 0 < f) (w : Fits w64 cap) where
+  pub backoff-cap : cap / f < base → fromNanos cap ≡ rule.backoff e (fromNanos base) (fromNanos cap)
+  backoff-cap h =
+      let l : cap < base * f = div-lt-iff-lt-mul q .0 h in
+      let m : cap ≡ min (base * f) cap = omega arith in
+      ap fromNanos m ∙ rw (p ∙ factor-is e) (sym (backoff-nanos e base cap (w .fits)))
+
+  pub backoff-whole : base ≤ cap / f → fromNanos (base * f) ≡ rule.backoff e (fromNanos base) (fromNanos cap)
+  backoff-whole h =
+      let l : base * f ≤ cap = le-div-iff-mul-le q .0 h in
+      let m : base * f ≡ min (base * f) cap = omega arith in
+      ap fromNanos m ∙ rw (p ∙ factor-is e) (sym (backoff-nanos e base cap (w .fits)))
+
+pub product-fits : (f base cap : ℕ) → 0 < f → base ≤ cap / f → Fits w64 cap → Fits w64 (base * f)
+product-fits f base cap q h w = let l : base * f ≤ cap = le-div-iff-mul-le q .0 h in omega arith
+
+-- ---- the step that is halved: k halvings are left, enough for s
+pub record Later (now d s : ℕ) : Type 0 where
+  pub turns : ℕ
+  pub small : s < 2 ^ turns
+  pub left : rule.deadline now (fromNanos d) ≡ late turns now s
+
+pub later-start : (now d s : ℕ) → Fits w64 now → s ≡ min d ceilingNanos → Later now d s
+later-start now d s w e = record { turns = 64; small = omega arith; left = rw e (deadline-nanos now d (w .fits)) }
+
+module _ {now d s : ℕ} (a : Later now d s) where
+  pub later-turn : 18446744073709551615 - now < s → Later now d (s / 2)
+  unfolding late
+  later-turn h = go (a .turns) (a .small) (a .left)
+    where
+      go : (k : ℕ) → s < 2 ^ k → rule.deadline now (fromNanos d) ≡ late k now s → Later now d (s / 2)
+      go zero p e = absurd (omega arith)
+      go (suc k) p e = record { turns = k; small = let q : s < 2 ^ k * 2 = rw pow-suc at p in omega arith; left = e ∙ rw (lt-ltb (18446744073709551615 - now) s h) }
+
+  pub later-end : s ≤ 18446744073709551615 - now → now + s ≡ rule.deadline now (fromNanos d)
+  unfolding late
+  later-end h = sym (a .left ∙ go (a .turns) (a .small))
+    where
+      go : (k : ℕ) → s < 2 ^ k → late k now s ≡ now + s
+      go zero p = omega arith
+      go (suc k) p = rw (le-ltb (18446744073709551615 - now) s h)
+
+pub resend-is : (now e base step r : ℕ) → Fits w64 now → fromNanos step ≡ rule.backoff e (fromNanos base) (fromNanos 3153600000000000000) → r ≡ rule.deadline now (fromNanos step)
+    → r ≡ rule.deadline now (rule.backoff e (fromNanos base) durationMax)
+resend-is now e base step r w p q = q ∙ ap (rule.deadline now) (p ∙ backoff-nanos e base ceilingNanos (lit< tt)) ∙ sym (resend-nanos now e base (w .fits))
+
+-- ---- ages
+pub age-none : (now was : ℕ) → now < was → (fromNanos 0 ≡ saturatingSince now was) × (0 ≡ now - was)
+unfolding saturatingSince
+age-none now was h = let e : 0 ≡ now - was = omega arith in (rw (← e), e)
+
+pub age-some : (now was : ℕ) → was ≤ now → (fromNanos (now - was) ≡ saturatingSince now was) × (now - was ≡ now - was)
+unfolding saturatingSince
+age-some now was h = (refl, refl)
+
+pub younger-is : (span now was a : ℕ) → a ≡ now - was → ltb a span ≡ rule.younger span now was
+younger-is span now was a e = rw e (sym (younger-nanos span now was))
+
+pub ruleset timing = (needs, factor-shift, factor-most, backoff-cap, backoff-whole, product-fits, later-start, later-turn, later-end, resend-is, age-none, age-some, younger-is)

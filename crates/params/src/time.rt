@@ -1,0 +1,81 @@
+// Spans and deadlines in nanoseconds.
+ghost use mathlib.Core.Path.{_≡_};
+ghost use Prim.Native.Nat.{_-_, _<_, min};
+ghost use Rattle.rules.specs.Base.{option};
+ghost use Rattle.rules.specs.Std.{fromNanos, durationMax, saturatingSince, checkedShl, u32Max};
+ghost use Rattle.rules.specs.Time as rule;
+
+// The furthest that a deadline reaches: 100 years.
+pub const CEILING: u64 = 3153600000000000000;
+
+// The last reading of the clock.
+const LAST: u64 = 18446744073709551615;
+
+// 1 shifted left by the exponent, and 2^32 - 1 from 32 on.
+pub fn factor(exponent: u32) -> u32
+    ensures { λ r. ⌜ r ≡ option (checkedShl 1 exponent) u32Max (λ f. f) ⌝ }
+    ensures { λ r. ⌜ 0 < r ⌝ }
+{
+    if exponent < 32 {
+        return 1u32 << exponent;
+    }
+    4294967295
+}
+
+// The base times the factor, cut to the cap. The product is computed only where it is within the cap.
+pub fn backoff(exponent: u32, base: u64, cap: u64) -> u64
+    ensures { λ r. ⌜ fromNanos r ≡ rule.backoff exponent (fromNanos base) (fromNanos cap) ⌝ }
+{
+    let f = factor(exponent) as u64;
+    if cap / f < base {
+        return cap;
+    }
+    base * f
+}
+
+fn least(a: u64, b: u64) -> u64
+    ensures { λ r. ⌜ r ≡ min a b ⌝ }
+{
+    if b < a {
+        return b;
+    }
+    a
+}
+
+// The reading after a span of at most the ceiling, which is halved until the sum fits.
+pub fn deadline(now: u64, d: u64) -> u64
+    ensures { λ r. ⌜ r ≡ rule.deadline now (fromNanos d) ⌝ }
+{
+    let room = LAST - now;
+    let mut step = least(d, CEILING);
+    while room < step {
+        step = step / 2;
+    }
+    now + step
+}
+
+// When a message is sent again.
+pub fn resend_at(now: u64, exponent: u32, base: u64) -> u64
+    ensures { λ r. ⌜ r ≡ rule.deadline now (rule.backoff exponent (fromNanos base) durationMax) ⌝ }
+{
+    let step = backoff(exponent, base, CEILING);
+    deadline(now, step)
+}
+
+// The span from a reading to now, 0 where the reading is later.
+pub fn age(now: u64, was: u64) -> u64
+    ensures { λ r. ⌜ fromNanos r ≡ saturatingSince now was ⌝ }
+    ensures { λ r. ⌜ r ≡ now - was ⌝ }
+{
+    if now < was {
+        return 0;
+    }
+    now - was
+}
+
+// Whether a reading is younger than a span.
+pub fn younger(span: u64, now: u64, was: u64) -> bool
+    ensures { λ r. ⌜ r ≡ rule.younger span now was ⌝ }
+{
+    age(now, was) < span
+}
