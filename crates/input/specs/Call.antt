@@ -154,6 +154,22 @@ pub no-kind : (k : ℕ) → 17 ≤ k → kindFields k ≡ fail
 unfolding kinds
 no-kind k h = rw (lost kinds k h)
 
+-- a kind that is none of those asked about
+pub of-first : (k : ℕ) → k < 6 → (k ≡ 1 → ⊥) → (k ≡ 2 → ⊥) → (k ≡ 3 → ⊥) → (k ≡ 4 → ⊥) → (k ≡ 5 → ⊥) → k ≡ 0
+of-first zero h a b c d e = refl
+of-first (suc zero) h a b c d e = absurd (a refl)
+of-first (suc (suc zero)) h a b c d e = absurd (b refl)
+of-first (suc (suc (suc zero))) h a b c d e = absurd (c refl)
+of-first (suc (suc (suc (suc zero)))) h a b c d e = absurd (d refl)
+of-first (suc (suc (suc (suc (suc zero))))) h a b c d e = absurd (e refl)
+of-first (suc (suc (suc (suc (suc (suc k)))))) h a b c d e = absurd (omega arith)
+
+past : (n k : ℕ) → n ≤ k → (k ≡ n → ⊥) → suc n ≤ k
+past n k h q = omega (arith, q)
+
+pub of-last : (k : ℕ) → 13 ≤ k → (k ≡ 13 → ⊥) → (k ≡ 14 → ⊥) → (k ≡ 15 → ⊥) → (k ≡ 16 → ⊥) → 17 ≤ k
+of-last k h a b c d = past 16 k (past 15 k (past 14 k (past 13 k h a) b) c) d
+
 -- ---- kinds that share a shape
 
 -- a call with no field

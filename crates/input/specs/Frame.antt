@@ -91,12 +91,12 @@ module _ (s : Bytes) where
 -- ---- the whole record
 
 -- the clock beside what the fields say
-stamped : (now : ℕ) (o : Option (Call × Bytes)) → finished (option o none (λ r. some (record { now = now; call = r .0 }, r .1))) ≡ option (finished o) none (λ c. some (record { now = now; call = c }))
+stamped : (now : ℕ) (o : Option (Call × Bytes)) → finished {A = Timed} (option o none (λ r. some (record { now = now; call = r .0 }, r .1))) ≡ option (finished o) none (λ c. some (record { now = now; call = c }))
 stamped now none = refl
 stamped now (some (a, [])) = refl
 stamped now (some (a, b ∷ s)) = refl
 
-clocked : (now : ℕ) (fields : Reader Call) (s : Bytes) → finished (bind fields (λ c. give (record { now = now; call = c })) s) ≡ option (finished (fields s)) none (λ c. some (record { now = now; call = c }))
+clocked : (now : ℕ) (fields : Reader Call) (s : Bytes) → finished {A = Timed} (bind fields (λ c. give (record { now = now; call = c })) s) ≡ option (finished (fields s)) none (λ c. some (record { now = now; call = c }))
 unfolding bind
 clocked now fields s = stamped now (fields s)
 
@@ -113,7 +113,7 @@ call-read {s} {k} {a} {ok₁} {ok₂} {now} {b} {r} h t q =
     say false e = rw e
 
     go : (ok : Bool) → finished (if ok then kindFields k (drop b s) else none) ≡ (if r .ok then some (callOf (r .call)) else none) → (g : Bool) → r .ok ≡ g
-        → finished (if ok then bind (kindFields k) (λ c. give (record { now = now; call = c })) (drop b s) else none) ≡ (if r .ok then some (timedOf (r .call)) else none)
+        → finished {A = Timed} (if ok then bind (kindFields k) (λ c. give (record { now = now; call = c })) (drop b s) else none) ≡ (if r .ok then some (timedOf (r .call)) else none)
     go true e g z = clocked now (kindFields k) (drop b s) ∙ rw e (rw z (rw z at (say g z)))
     go false e true z = absurd (let x : _≡_ {A = ℕ} 0 1 = cc in omega arith)
     go false e false z = rw z

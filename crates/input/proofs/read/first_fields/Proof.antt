@@ -1,8 +1,7 @@
 use borrow.Author.Needs.{needs}
-use native.Mathlib.Omega.{arith}
 use mathlib.Core.Path.{_≡_}
 use Rattle.rules.specs.Record.{kinds}
-use Rattle.input.specs.Call.{callOf}
+use Rattle.input.specs.Call.{callOf, of-first}
 use Rattle.input.proofs.read.first_fields.Statement.{statement}
 use Rattle.input.proofs.read.first_fields.Tie as tie
 
@@ -29,7 +28,8 @@ returns-5 c = rw (c .before .if5 .taken) (c .replacement-fields .ensures)
 returns-6 : tie.Need-returns-6
 unfolding kinds callOf
 returns-6 c =
-    let e : c .before .before .before .before .before .before .before .args .kind ≡ 0 = omega (arith, c .before .if5 .left, c .before .before .if4 .left, c .before .before .before .if3 .left, c .before .before .before .before .if2 .left, c .before .before .before .before .before .if1 .left) in
+    let e : c .before .before .before .before .before .before .before .args .kind ≡ 0 =
+    of-first _ (search needs) (c .before .before .before .before .before .if1 .left) (c .before .before .before .before .if2 .left) (c .before .before .before .if3 .left) (c .before .before .if4 .left) (c .before .if5 .left) in
     rw e (c .no-fields .ensures)
 
 pub first-fields-spec : {M : Type 1} → statement M
