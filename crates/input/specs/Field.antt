@@ -3,7 +3,7 @@ use mathlib.Core.Path.{_≡_, refl, sym, ap, _∙_}
 use mathlib.Core.Bool.{Bool, true, false}
 use mathlib.Core.Option.{Option, none, some}
 use mathlib.Core.List.{List, [], _∷_, _++_}
-use Prim.Native.Nat.{ℕ, zero, suc, _+_, _-_, _≤_, _<_}
+use Prim.Native.Nat.{ℕ, zero, suc, _+_, _*_, _-_, _≤_, _<_}
 use native.Mathlib.Omega.{arith}
 use borrow.Author.Tests.{leb-true, leb-false}
 use lib.Dec.{eqb, leb}
@@ -25,6 +25,13 @@ noPair = record { ok = false; value = blankPair }
 
 abbrev pub noMessage : readmessage.ReadMessage
 noMessage = record { ok = false; value = blankMessage }
+
+-- ---- two bytes
+pub two-is : (s : Bytes) (a b : ℕ) → 2 ≤ length s → a ≡ getD s 0 0 → b ≡ getD s 1 0 → a * 256 + b ≡ more 0 (take 2 s)
+unfolding more
+two-is [] a b h e f = absurd (omega arith)
+two-is (x ∷ []) a b h e f = absurd (omega arith)
+two-is (x ∷ y ∷ s) a b h e f = omega arith
 
 -- ---- a flag, by its byte
 truth : (v : ℕ) → v < 2 → getD flags v false ≡ eqb v 1

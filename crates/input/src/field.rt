@@ -16,7 +16,7 @@ ghost use mathlib.Core.Bool.{false};
 ghost use mathlib.Core.List.{[]};
 ghost use Prim.Native.Nat.{_+_, _≤_, _<_, _^_};
 ghost use lib.ListN.{length, take, drop, replicate};
-ghost use Rattle.rules.specs.Field.{number, peer, lease, digest, flag, pair, message};
+ghost use Rattle.rules.specs.Field.{more, number, peer, lease, digest, flag, pair, message};
 ghost use Rattle.node_addr.specs.View.{viewPair, viewMessage, FitPair, FitMessage, blankPair, blankMessage};
 ghost use Rattle.input.specs.Told.{Told, below};
 ghost use Rattle.input.specs.Field.{noPair, noMessage};
@@ -59,6 +59,24 @@ pub struct ReadPair {
 pub struct ReadMessage {
     pub ok: bool,
     pub value: Message,
+}
+
+fn wide(x: u8) -> usize
+    ensures { λ r. ⌜ r ≡ x ⌝ }
+    ensures { λ r. ⌜ r < 256 ⌝ }
+{
+    x as usize
+}
+
+// The number of the first two bytes.
+pub fn two_bytes(rest: &[u8]) -> usize
+    requires { ⌜ 2 ≤ length (now rest) ⌝ }
+    ensures { λ r. ⌜ r ≡ more 0 (take 2 (now (rest .entry))) ⌝ }
+    ensures { λ r. ⌜ r < 65536 ⌝ }
+{
+    let a = wide(rest[0]);
+    let b = wide(rest[1]);
+    a * 256 + b
 }
 
 // A node address, 16 bytes.
@@ -139,10 +157,10 @@ pub fn read_byte(rest: &[u8]) -> ReadByte
             value: 0,
         };
     }
-    let value = get_byte(rest, 0);
+    let byte = get_byte(rest, 0);
     ReadByte {
         ok: true,
-        value: value,
+        value: byte,
     }
 }
 
@@ -244,7 +262,7 @@ pub fn read_message(rest: &[u8]) -> ReadMessage
     if rest.len() < 2 {
         return no_message();
     }
-    let n = get_be(rest, 0, 2) as usize;
+    let n = two_bytes(rest);
     if 128 < n {
         return no_message();
     }

@@ -1,5 +1,6 @@
 // A call's record: length (of what follows), version 1, kind, clock, fields, and nothing more.
 use crate::call::ReadCall;
+use crate::field::two_bytes;
 use crate::row::word_at;
 use crate::shape::arrived_fields;
 use crate::shape::bare_fields;
@@ -14,7 +15,6 @@ use crate::shape::release_fields;
 use crate::shape::remove_fields;
 use crate::shape::replacement_fields;
 use crate::shape::restarted_fields;
-use memory::read::get_be;
 ghost use mathlib.Core.Path.{_≡_};
 ghost use mathlib.Core.Bool.{true};
 ghost use mathlib.Core.Option.{none, some};
@@ -43,7 +43,7 @@ pub fn read_frame(rec: &[u8]) -> Frame
             at: 0,
         };
     }
-    if get_be(rec, 0, 2) as usize + 2 != rec.len() {
+    if two_bytes(rec) + 2 != rec.len() {
         return Frame {
             ok: false,
             kind: 0,

@@ -11,20 +11,20 @@ returns c = rw (c .no-message .ensures) (told-none (message-short _ (search need
 returns-2 : tie.Need-returns-2
 returns-2 c =
     rw (c .no-message2 .ensures) (
-      told-none (message-big _ (search needs) (c .before .before .get-be .ensures .0) (search needs)),
+      told-none (message-big _ (search needs) (c .before .before .two-bytes .ensures .0) (search needs)),
       fit-blank-message,
     )
 
 returns-3 : tie.Need-returns-3
 returns-3 c =
     rw (c .no-message3 .ensures) (
-      told-none (message-cut _ (search needs) (c .before .before .before .get-be .ensures .0) (search needs) (search needs)),
+      told-none (message-cut _ (search needs) (c .before .before .before .two-bytes .ensures .0) (search needs) (search needs)),
       fit-blank-message,
     )
 
 returns-4 : tie.Need-returns-4
 returns-4 c =
-    let n = c .before .before .before .get-be .ensures .0 in (
+    let n = c .before .before .before .two-bytes .ensures .0 in (
       message-told _ (search needs) n (search needs) (search needs) (c .take-128 .ensures),
       message-fits (c .before .before .before .before .before .before .args .rest .now) (search needs) n (search needs) (search needs) (c .take-128 .ensures),
     )
