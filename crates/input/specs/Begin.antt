@@ -14,7 +14,7 @@ use Rattle.rules.specs.Record.{Begin, settings, form, beginFields, begin, frame
 use Rattle.rules.specs.Entry.{Start, Made, Refused, newTable, new}
 use Rattle.laws.specs.Follow.{Stepped, Follows, follows-start, follows-step}
 use Rattle.params.specs.View.{viewParams}
-use Rattle.input.specs.Told.{below, coded}
+use Rattle.fields.specs.Told.{below, coded}
 use Rattle.input.specs.Call.{follows-whole}
 use Rattle.input.specs.Frame.{heading, framed-is}
 use Rattle.input.specs.declared.begin.SpansAt as spansat

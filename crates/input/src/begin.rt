@@ -1,11 +1,11 @@
 // The record of new: its clock, which nothing uses, me, the first link number, and the settings by their form.
 use crate::read::read_frame;
-use crate::row::byte_at;
-use crate::row::code_at;
-use crate::row::lease_at;
-use crate::row::peer_at;
-use crate::row::whole;
-use crate::row::word_at;
+use fields::row::byte_at;
+use fields::row::code_at;
+use fields::row::lease_at;
+use fields::row::peer_at;
+use fields::row::whole;
+use fields::row::word_at;
 use node_addr::NodeAddr;
 use params::Params;
 use params::default;

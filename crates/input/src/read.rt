@@ -1,7 +1,5 @@
 // A call's record: length (of what follows), version 1, kind, clock, fields, and nothing more.
 use crate::call::ReadCall;
-use crate::field::two_bytes;
-use crate::row::word_at;
 use crate::shape::arrived_fields;
 use crate::shape::bare_fields;
 use crate::shape::dial_fields;
@@ -15,6 +13,8 @@ use crate::shape::release_fields;
 use crate::shape::remove_fields;
 use crate::shape::replacement_fields;
 use crate::shape::restarted_fields;
+use fields::field::two_bytes;
+use fields::row::word_at;
 ghost use mathlib.Core.Path.{_≡_};
 ghost use mathlib.Core.Bool.{true};
 ghost use mathlib.Core.Option.{none, some};

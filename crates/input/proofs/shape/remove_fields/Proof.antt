@@ -6,7 +6,7 @@ use Rattle.rules.specs.Field.{whys}
 use Rattle.rules.specs.Record.{removeFields}
 use Rattle.laws.specs.Follow.{follows-start, follows-step}
 use Rattle.node_addr.specs.View.{fit-blank-pair, fit-blank-message}
-use Rattle.input.specs.Told.{coded}
+use Rattle.fields.specs.Told.{coded}
 use Rattle.input.specs.Call.{callOf, read-end}
 use Rattle.input.proofs.shape.remove_fields.Statement.{statement}
 use Rattle.input.proofs.shape.remove_fields.Tie as tie
