@@ -4,6 +4,7 @@ use input::begin::read_new;
 use input::call::Call;
 use input::read::read_call;
 use memory::read::get_be;
+use node_addr::Digest;
 use params::Params;
 ghost use Prim.Native.Nat.{_≤_};
 ghost use lib.ListN.{length};
@@ -65,18 +66,23 @@ fn last_words(c: Call)
     number(c.link.0, 16);
     number(c.lease as u64, 8);
     number(c.epoch, 16);
-    let digest = c.digest.0;
-    run(&digest);
-    number(one(c.flag), 2);
-    io::print_hex(1, wide(c.code), 2);
+}
+
+fn digest_word(d: Digest) {
+    let b = d.0;
+    run(&b);
 }
 
 fn show_call(s: &[u8]) {
     let r = read_call(s);
     let c = r.call;
     if r.ok {
+        let digest = c.digest;
         first_words(c);
         last_words(c);
+        digest_word(digest);
+        number(one(c.flag), 2);
+        io::print_hex(1, wide(c.code), 2);
     } else {
         io::write_all(1, &[b'-']);
     }
