@@ -62,6 +62,10 @@ getD-here [] i v p = absurd (not-suc-le-zero p)
 getD-here (x ∷ xs) zero v p = refl
 getD-here (x ∷ xs) (suc i) v p = getD-here xs i v (le-of-suc-le-suc p)
 
+-- `&mut s[a..a + k]` lends a part of this length
+pub mid-width : (a k : ℕ) → a + k - a ≡ k
+mid-width a k = omega arith
+
 -- ---- a part of a slice, lent and put back: ys in the place of the k elements from the a-th on
 pub put-is : (a k : ℕ) (xs ys : List ℕ) → length ys ≡ k → take a xs ++ (ys ++ drop k (drop a xs)) ≡ splice xs a ys
 unfolding splice

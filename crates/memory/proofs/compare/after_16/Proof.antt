@@ -1,3 +1,4 @@
+-- `memory::compare::after_16` meets its contract.
 use lib.Seq.{take-all}
 use borrow.Author.Needs.{needs}
 use Rattle.memory.proofs.compare.after_16.Statement.{statement}

@@ -1,3 +1,4 @@
+-- `memory::compare::before_16` meets its contract.
 use lib.Seq.{take-all}
 use borrow.Author.Needs.{needs}
 use Rattle.memory.proofs.compare.before_16.Statement.{statement}

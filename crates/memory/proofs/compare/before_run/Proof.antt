@@ -1,3 +1,4 @@
+-- `memory::compare::before_run` meets its contract.
 use native.Mathlib.Omega.{arith}
 use mathlib.Core.Path.{sym, _∙_}
 use Rattle.laws.specs.Words.{order-first, order-second}

@@ -1,3 +1,4 @@
+-- `memory::compare::same_32` meets its contract.
 use lib.Seq.{take-all}
 use borrow.Author.Needs.{needs}
 use Rattle.memory.proofs.compare.same_32.Statement.{statement}

@@ -1,3 +1,4 @@
+-- `memory::compare::same_rest` meets its contract.
 use Prim.Native.Nat.{_-_}
 use Rattle.laws.specs.Beside.{Beside, comparing}
 use Rattle.rules.specs.Base.{same}

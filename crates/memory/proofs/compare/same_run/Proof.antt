@@ -1,3 +1,4 @@
+-- `memory::compare::same_run` meets its contract.
 use native.Mathlib.Omega.{arith}
 use mathlib.Core.Path.{sym, _∙_}
 use Prim.Native.Nat.{_-_}

@@ -1,3 +1,4 @@
+-- `memory::read::get_4` meets its contract.
 use Rattle.laws.specs.Parse.{be-four}
 use borrow.Author.Needs.{needs}
 use Rattle.memory.proofs.read.get_4.Statement.{statement}

@@ -1,3 +1,4 @@
+-- `memory::read::get_8` meets its contract.
 use native.Mathlib.Omega.{arith}
 use Rattle.laws.specs.Parse.{be-eight}
 use borrow.Author.Needs.{needs}

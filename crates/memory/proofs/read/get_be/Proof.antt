@@ -1,3 +1,4 @@
+-- `memory::read::get_be` meets its contract.
 use borrow.Author.Needs.{needs}
 use Rattle.memory.proofs.read.get_be.Statement.{statement}
 use Rattle.memory.proofs.read.get_be.Tie as tie

@@ -1,3 +1,4 @@
+-- `memory::read::get_few` meets its contract.
 use Prim.Native.Nat.{_-_}
 use Rattle.laws.specs.Parse.{Counting, counting}
 use Rattle.memory.proofs.read.get_few.Statement.{statement}

@@ -1,3 +1,4 @@
+-- `memory::read::take_32` meets its contract.
 use Prim.Native.Nat.{_-_}
 use Rattle.laws.specs.Buffer.{Filling, filling}
 use Rattle.memory.proofs.read.take_32.Statement.{statement}

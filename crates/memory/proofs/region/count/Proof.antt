@@ -1,3 +1,4 @@
+-- `memory::region::count` meets its contract.
 use native.Mathlib.Omega.{arith}
 use borrow.Author.Needs.{needs}
 use Rattle.memory.proofs.region.count.Statement.{statement}

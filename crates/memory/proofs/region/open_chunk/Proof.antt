@@ -1,3 +1,4 @@
+-- `memory::region::open_chunk` meets its contract.
 use Rattle.laws.specs.Store.{chunking}
 use Rattle.memory.proofs.region.open_chunk.Statement.{statement}
 use Rattle.memory.proofs.region.open_chunk.Tie as tie

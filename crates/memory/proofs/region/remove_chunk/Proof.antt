@@ -1,3 +1,4 @@
+-- `memory::region::remove_chunk` meets its contract.
 use lib.ListN.{length-set}
 use native.Mathlib.Omega.{arith}
 use Rattle.laws.specs.Store.{chunking}

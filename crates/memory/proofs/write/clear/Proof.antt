@@ -1,3 +1,4 @@
+-- `memory::write::clear` meets its contract.
 use Prim.Native.Nat.{_-_}
 use Rattle.laws.specs.Move.{Clearing, moving}
 use Rattle.memory.proofs.write.clear.Statement.{statement}

@@ -1,3 +1,4 @@
+-- `memory::write::move_down` meets its contract.
 use Prim.Native.Nat.{_-_}
 use Rattle.laws.specs.Move.{Lowering, moving}
 use Rattle.memory.proofs.write.move_down.Statement.{statement}

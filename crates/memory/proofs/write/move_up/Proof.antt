@@ -1,3 +1,4 @@
+-- `memory::write::move_up` meets its contract.
 use Rattle.laws.specs.Move.{Raising, moving}
 use Rattle.memory.proofs.write.move_up.Statement.{statement}
 use Rattle.memory.proofs.write.move_up.Tie as tie

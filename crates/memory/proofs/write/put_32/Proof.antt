@@ -1,3 +1,4 @@
+-- `memory::write::put_32` meets its contract.
 use lib.Seq.{take-all}
 use borrow.Author.Needs.{needs}
 use Rattle.memory.proofs.write.put_32.Statement.{statement}

@@ -1,3 +1,4 @@
+-- `memory::write::put_be` meets its contract.
 use Rattle.laws.specs.Splice.{Putting, writing}
 use Rattle.memory.proofs.write.put_be.Statement.{statement}
 use Rattle.memory.proofs.write.put_be.Tie as tie

@@ -1,3 +1,4 @@
+-- `memory::write::put_byte` meets its contract.
 use Rattle.laws.specs.Splice.{writing}
 use Rattle.memory.proofs.write.put_byte.Statement.{statement}
 use Rattle.memory.proofs.write.put_byte.Tie as tie

@@ -1,3 +1,4 @@
+-- `memory::write::put_run` meets its contract.
 use Prim.Native.Nat.{_-_}
 use Rattle.laws.specs.Move.{Running, moving}
 use Rattle.memory.proofs.write.put_run.Statement.{statement}
