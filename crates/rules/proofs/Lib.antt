@@ -7,6 +7,13 @@ pub mod Walk
 pub mod Holders
 pub mod Fields
 pub mod CallFits
+pub mod Peers
+pub mod Order
+pub mod Gating
+pub mod Widths
+pub mod Room
+pub mod Bounds
+pub mod Size
 pub mod Records
 pub mod Time
 pub mod Rows

@@ -190,9 +190,9 @@ crowd zero = []
 crowd (suc n) = crowdDial (suc n) ∷ crowd n
 
 -- a session for each of the peers n down to 1 that ends unheard, on links k onwards: it leaves a silence and no link
-abbrev pub ghosts : ℕ → ℕ → List Timed
-ghosts zero k = []
-ghosts (suc n) k = crowdMsg1 (suc n) ∷ on 0 (Call.Sent k) ∷ on 0 (Call.Remove (crowdPeer (suc n)) Why.Ended) ∷ ghosts n (suc k)
+abbrev pub silents : ℕ → ℕ → List Timed
+silents zero k = []
+silents (suc n) k = crowdMsg1 (suc n) ∷ on 0 (Call.Sent k) ∷ on 0 (Call.Remove (crowdPeer (suc n)) Why.Ended) ∷ silents n (suc k)
 
 abbrev pub pathTo : ℕ → Proven → Timed
 pathTo n v = on 0 (Call.Path 1 (record { transport = n; addr = [] }) v)
@@ -242,7 +242,7 @@ pub record Rows : Type 0 where
   pub numbers-5 : numbers 1 (crowd 31) (crowdDial 32 ∷ crowdDial 33 ∷ on 0 (Call.Replacement (crowdHello 33)) ∷ on 0 (Call.Abandon 3) ∷ crowdDial 33 ∷ [])
       ≡ 0 ∷ 5 ∷ 5 ∷ 0 ∷ 0 ∷ []
   -- 6: the peer has no place and 32 places are used
-  pub numbers-6 : numbers 1 (ghosts 32 1) (crowdDial 33 ∷ crowdMsg1 33 ∷ crowdDial 32 ∷ []) ≡ 6 ∷ 6 ∷ 0 ∷ []
+  pub numbers-6 : numbers 1 (silents 32 1) (crowdDial 33 ∷ crowdMsg1 33 ∷ crowdDial 32 ∷ []) ≡ 6 ∷ 6 ∷ 0 ∷ []
   -- 7: live link, new pair, four paths already
   pub numbers-7 : numbers 1 (crowdDial 1 ∷ pathTo 1 Live ∷ pathTo 2 Acked ∷ pathTo 3 Probing ∷ pathTo 4 Live ∷ []) (pathTo 5 Live ∷ pathTo 3 Live ∷ []) ≡ 7 ∷ 0 ∷ []
   -- Poll repeats a resend until sent moves it.
