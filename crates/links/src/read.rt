@@ -89,7 +89,7 @@ pub fn outbound_at(s: &[u8], i: usize) -> bool
 }
 
 // Whether the bundle of the link at a place released its setup.
-pub(crate) fn released_at(s: &[u8], i: usize) -> bool
+pub fn released_at(s: &[u8], i: usize) -> bool
     requires { ⌜ FitLinks (now s) ⌝ }
     requires { ⌜ i < linkCount (now s) ⌝ }
     ensures { λ r. ⌜ r ≡ getD (viewLinks (now (s .entry))) i noLink .released ⌝ }
