@@ -9,7 +9,7 @@ use native.Mathlib.Omega.{arith}
 use lib.Dec.{eqb, lit≤, lit<}
 use lib.Seq.{length-take-le, take-at, drop-at, take-all, getD-take, getD-drop}
 use lib.ListN.{length, take, drop, getD, replicate, length-drop, length-append}
-use mir.Syntax.{w32, w64}
+use mir.Syntax.{w64}
 use mir.Val.{Fits}
 use Rattle.rules.specs.Base.{if_then_else_, one, Bytes}
 use Rattle.rules.specs.Field.{more, digits}
@@ -27,7 +27,7 @@ use Rattle.memories.specs.declared.Replays.{Replays}
 use Rattle.memories.specs.declared.Digests.{Digests}
 use Rattle.memories.specs.declared.Silence.{Silence}
 use Rattle.memories.specs.declared.Memory.{Memory}
-use Rattle.memories.specs.View.{optional, viewReplay, viewReplays, viewDigest, viewDigests, viewSilence, viewMemory, blankReplay, blankSilence, FitReplay, FitDigest, FitReplays, FitDigests, FitSilence, FitMemory}
+use Rattle.memories.specs.View.{optional, viewReplay, viewReplays, viewDigest, viewDigests, viewSilence, viewMemory, blankReplay, blankSilence, FitReplay, FitDigest, FitReplays, FitDigests, WideSilence, FitSilence, FitMemory}
 use Rattle.gates.specs.Rows.{AnyBytes, part-at, cuts-part, row-size, row-store, row-shows}
 use Rattle.gates.specs.View.{cell, replayOf, digestOf, silenceWs, silenceFrom, silenceOf, SilenceCells, FitSilenceCell, entryWs, entryFrom, entryOf, FitCells, FitEntry, viewGates, FitGates, gateCount, noMemory, memoryAt}
 
@@ -147,13 +147,6 @@ unfolding digits
 optional-number true v h = record { flag = flag-code true; size = length-digits 8 v; blank = λ e. cc }
 optional-number false v h = record { flag = flag-code false; size = length-digits 8 v; blank = λ e. rw (h refl) }
 
--- each number is one of its type
-pub record WideSilence (x : Silence) : Type 0 where
-  pub epoch : Fits w64 (x .epoch)
-  pub count : Fits w32 (x .count)
-  pub last : Fits w64 (x .last)
-  pub until : Fits w64 (x .until)
-
 module _ (x : Silence) (f : FitSilence x) where
   silence-widths : map length (silenceFields x) ≡ silenceWs
   silence-widths = rw (length-digits 8 (x .epoch), length-digits 4 (x .count), length-digits 8 (x .last), length-digits 8 (x .until), digests-size (x .counted) (f .counted))
@@ -175,9 +168,10 @@ module _ (x : Silence) (f : FitSilence x) where
     });
   }
 
-  silence-shows : WideSilence x → silenceOf (silenceBytes x) ≡ viewSilence x
+  silence-shows : silenceOf (silenceBytes x) ≡ viewSilence x
   unfolding silenceOf
-  silence-shows b =
+  silence-shows =
+      let b = f .wide in
       ap silenceFrom silence-cells
       ∙ rw (
         flag-shows (x .known),
@@ -211,10 +205,6 @@ pub put-memory-is : (m : Memory) {xs : Bytes} {at : ℕ} {ys : Bytes} {r : ℕ}
     → Wrote xs at 634 (frontRow m ++ silenceBytes (m .silence) ++ replaysBytes (m .replays)) ys r → Wrote xs at 634 (memoryBytes m) ys r
 put-memory-is m {xs} {at} {ys} {r} w = subst (λ (b : Bytes). Wrote xs at 634 b ys r) (memory-spelt m) w
 
-pub record WideMemory (m : Memory) : Type 0 where
-  pub stamp : Fits w64 (m .stamp)
-  pub silence : WideSilence (m .silence)
-
 module _ (m : Memory) (f : FitMemory m) where
   memory-widths : map length (entryFields m) ≡ entryWs
   memory-widths = rw (f .peer, length-digits 8 (m .stamp), silence-size (m .silence) (f .silence), replays-size (m .replays) (f .replays))
@@ -232,14 +222,14 @@ module _ (m : Memory) (f : FitMemory m) where
     replays = replays-store (m .replays) (f .replays);
   })
 
-  pub memory-shows : WideMemory m → entryOf (memoryBytes m) ≡ viewMemory m
+  pub memory-shows : Fits w64 (m .stamp) → entryOf (memoryBytes m) ≡ viewMemory m
   memory-shows b =
       ap entryFrom memory-cells
       ∙ rw (
         flag-shows (m .stamped),
-        more-digits 8 (m .stamp) (b .stamp .fits),
+        more-digits 8 (m .stamp) (b .fits),
         flag-shows (m .silent),
-        silence-shows (m .silence) (f .silence) (b .silence),
+        silence-shows (m .silence) (f .silence),
         replays-show (m .replays) (f .replays),
       )
 
@@ -251,6 +241,7 @@ pub record LoadedSilence (r : Silence) (a : ℕ) (s : Bytes) : Type 0 where
   pub last : r .last ≡ num (take 8 (drop (a + 13) s))
   pub refusing : r .refusing ≡ flagOf (take 1 (drop (a + 21) s))
   pub until : r .until ≡ num (take 8 (drop (a + 22) s))
+  pub wide : WideSilence r
   pub fits : FitDigests (r .counted)
   pub counted : viewDigests (r .counted) ≡ entries digestOf 32 8 (take 257 (drop (a + 30) s))
 
@@ -276,7 +267,7 @@ module _ (s : Bytes) (at : ℕ) where
       let z : at + 0 ≡ at = add-zero at in
       let k = rw z at (silence-there f) in
       let v : viewSilence r ≡ silenceFrom (cuts at 0 silenceWs s) = rw (l .known, l .epoch, l .count, l .last, l .refusing, l .until, l .counted, z) in (
-        record { unknown = clear (k .epoch) (l .known) (l .epoch); lifted = clear (k .until) (l .refusing) (l .until); counted = l .fits },
+        record { wide = l .wide; unknown = clear (k .epoch) (l .known) (l .epoch); lifted = clear (k .until) (l .refusing) (l .until); counted = l .fits },
         v ∙ ap silenceFrom (sym silence-cuts),
       )
 

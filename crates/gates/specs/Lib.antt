@@ -4,3 +4,4 @@ pub mod Entry
 pub mod Walk
 pub mod Order
 pub mod Put
+pub mod Still

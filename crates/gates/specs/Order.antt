@@ -114,10 +114,22 @@ kept-still g i d e = go (getD g i d) refl (getD g i d .stamp) (getD g i d .repla
         → g ≡ (if remembers (clear m) then set g i (clear m) else erase i g)
     go m q (some s) [] none a b c e =
         let z : clear m ≡ m = rw (← b, ← c) in
-        rw (z, a) (sym (rw q (set-same g i d)))
+        let y : remembers (clear m) ≡ true = rw a in
+        sym (ap (λ (x : Memory). set g i x) (z ∙ q) ∙ set-same g i d) ∙ ap (λ (k : Bool). if k then set g i (clear m) else erase i g) (sym y)
     go m q none r x a b c e = cc
     go m q (some s) (y ∷ r) x a b c e = cc
     go m q (some s) [] (some x) a b c e = cc
+
+pub clear-peer : (m : Memory) → clear m .peer ≡ m .peer
+unfolding clear
+clear-peer m = refl
+
+-- a memory that was found, cleared
+pub heard-found : (p : Bytes) (g : List Memory) (i : ℕ) (d : Memory) → Ascending earlierMemory g → scan (memoryOf p) 0 g ≡ some i
+    → (if remembers (clear (getD g i d)) then set g i (clear (getD g i d)) else erase i g) ≡ store (clear (memory p g)) g
+heard-found p g i d a e =
+    ap (λ (m : Memory). if remembers (clear m) then set g i (clear m) else erase i g) (memory-at p g i d e)
+    ∙ stored-at (clear (memory p g)) g i (clear-peer (memory p g) ∙ memory-peer p g) a e
 
 -- ---- room for one more, where the peer has none
 pub record Room (p : Bytes) (g : List Memory) (n : ℕ) : Type 0 where
@@ -127,8 +139,8 @@ pub record Room (p : Bytes) (g : List Memory) (n : ℕ) : Type 0 where
 pub record RoomFor (m : Memory) (g : List Memory) (n : ℕ) : Type 0 where
   pub room : scan (memoryOf (m .peer)) 0 g ≡ none → remembers m ≡ true → n < 32
 
-pub room-for : {p : Bytes} {g : List Memory} {n : ℕ} (m : Memory) → m .peer ≡ p → Room p g n → RoomFor m g n
-room-for m e r = record { room = λ z y. r .room (rw e at z) }
+pub room-for : {p : Bytes} {g : List Memory} {n : ℕ} (m k : Memory) → m ≡ k → k .peer ≡ p → Room p g n → RoomFor m g n
+room-for m k q e r = let z : m .peer ≡ _ = ap (λ (x : Memory). x .peer) q ∙ e in record { room = λ y x. r .room (rw z at y) }
 
 -- ---- what a change keeps of the peer
 pub promoted-peer : (c : Params) (now : ℕ) (e : Bytes) (m : Memory) → promoted c now e m .peer ≡ m .peer
@@ -138,10 +150,6 @@ promoted-peer c now e m = refl
 pub ended-peer : (c : Params) (now : ℕ) (e : Option ℕ) (d : Option Bytes) (m : Memory) → ended c now e d m .peer ≡ m .peer
 unfolding ended
 ended-peer c now e d m = refl
-
-pub clear-peer : (m : Memory) → clear m .peer ≡ m .peer
-unfolding clear
-clear-peer m = refl
 
 -- what holds of each memory holds of a peer's
 pub within-memory : (c : Params) (p : Bytes) (g : List Memory) → All (Within c) g → Within c (memory p g)

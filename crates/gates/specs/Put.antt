@@ -4,6 +4,8 @@ use mathlib.Core.List.{List, []}
 use Prim.Native.Nat.{ℕ, _+_, _*_, _≤_, _<_}
 use native.Mathlib.Omega.{arith}
 use lib.ListN.{length, getD, set}
+use mir.Syntax.{w64}
+use mir.Val.{Fits}
 use Rattle.rules.specs.Base.{Bytes}
 use Rattle.rules.specs.Std as std
 use Rattle.rules.specs.Gates.{earlierMemory}
@@ -16,11 +18,11 @@ use Rattle.laws.specs.Store.{gapped, inserted-is}
 use Rattle.memories.specs.declared.Memory.{Memory}
 use Rattle.memories.specs.View.{viewMemory, FitMemory}
 use Rattle.gates.specs.View.{entryOf, viewGates, FitGates, gateCount}
-use Rattle.gates.specs.Entry.{memoryBytes, WideMemory, fit-memory, memory-shows}
+use Rattle.gates.specs.Entry.{memoryBytes, fit-memory, memory-shows}
 use Rattle.gates.specs.Walk.{after, Takes, count-is}
 use Rattle.gates.specs.Order.{inserted-here}
 
-module _ (m : Memory) (f : FitMemory m) (b : WideMemory m) {s : Bytes} (g : FitGates s) where
+module _ (m : Memory) (f : FitMemory m) (b : Fits w64 (m .stamp)) {s : Bytes} (g : FitGates s) where
   pub put-over : {l : Bytes} {q : ℕ} (i : ℕ) → i < gateCount s → Wrote s (i * 634) 634 (memoryBytes m) l q → FitGates l × (viewGates l ≡ set (viewGates s) i (viewMemory m))
   put-over {l} i h a =
       let n : length (memoryBytes m) ≡ 634 = a .size in

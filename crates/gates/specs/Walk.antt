@@ -3,9 +3,9 @@ use mathlib.Core.Path.{_≡_, refl, sym, ap, _∙_}
 use mathlib.Core.Bool.{Bool, true, false}
 use mathlib.Core.Option.{Option, none, some}
 use mathlib.Core.List.{List, []}
-use Prim.Native.Nat.{ℕ, _+_, _≤_, _<_}
+use Prim.Native.Nat.{ℕ, _+_, _*_, _≤_, _<_}
 use native.Mathlib.Omega.{arith}
-use lib.ListN.{length, getD}
+use lib.ListN.{length, getD, take, drop}
 use Rattle.rules.specs.Base.{Bytes, option}
 use Rattle.rules.specs.Std.{before}
 use Rattle.rules.specs.Data.{Memory}
@@ -15,6 +15,7 @@ use Rattle.laws.specs.Chunk.{chunks}
 use Rattle.laws.specs.Store.{entries-count}
 use Rattle.node_addr.specs.declared.Found.the-variants as foundv
 use Rattle.node_addr.specs.View.{Finds, finds-some, finds-no}
+use Rattle.gates.specs.Entry.{peer-here}
 use Rattle.gates.specs.View.{entryOf, viewGates, FitGates, gateCount, noMemory, memoryAt}
 
 pub count-is : {s : Bytes} → FitGates s → length (viewGates s) ≡ gateCount s
@@ -60,5 +61,9 @@ pub record Takes (r : ℕ) (o : Option ℕ) (n : ℕ) : Type 0 where
 pub takes-here : {o : Option ℕ} {n i : ℕ} → o ≡ some i → i < n → Takes i o n
 takes-here e h = record { within = omega arith; is = rw e }
 
-pub takes-last : {o : Option ℕ} {n : ℕ} → o ≡ none → Takes n o n
-takes-last e = record { within = omega arith; is = rw e }
+pub takes-end : {o : Option ℕ} {n end : ℕ} → o ≡ none → end ≡ n → Takes end o n
+takes-end e q = record { within = omega arith; is = rw e q }
+
+-- what was told of the peer where it stands
+pub told-peer : (g : Bytes → Bytes → Bool) (p : Bytes) {s : Bytes} {n : ℕ} {r b : Bool} (i : ℕ) → FitGates s → n ≡ gateCount s → i < n → r ≡ g p (take 16 (drop (i * 634) s)) → r ≡ b → g p (memoryAt s i .peer) ≡ b
+told-peer g p {s} i f e h q z = ap (g p) (sym (peer-here s i f (omega arith))) ∙ sym q ∙ z

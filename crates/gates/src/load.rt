@@ -9,6 +9,7 @@ use memories::blank_silence;
 use memories::no_digests;
 use memories::no_replays;
 use memory::read::get_be;
+use memory::region::count;
 use node_addr::place::load_digest;
 use node_addr::place::load_node;
 ghost use mathlib.Core.Path.{_≡_};
@@ -42,7 +43,7 @@ pub fn load_replays(s: &[u8], at: usize) -> Replays
     ensures { λ r. ⌜ FitReplays r ⌝ }
     ensures { λ r. ⌜ viewReplays r ≡ entries replayOf 40 8 (take 321 (drop at (now (s .entry)))) ⌝ }
 {
-    let n = s[at + 320] as usize;
+    let n = count(s, at + 320);
     let mut out = no_replays();
     let mut i = 0;
     while i < n {
@@ -61,7 +62,7 @@ pub fn load_digests(s: &[u8], at: usize) -> Digests
     ensures { λ r. ⌜ FitDigests r ⌝ }
     ensures { λ r. ⌜ viewDigests r ≡ entries digestOf 32 8 (take 257 (drop at (now (s .entry)))) ⌝ }
 {
-    let n = s[at + 256] as usize;
+    let n = count(s, at + 256);
     let mut out = no_digests();
     let mut i = 0;
     while i < n {

@@ -1,51 +1,44 @@
+use mathlib.Core.Path.{sym, ap, _∙_}
+use mathlib.Core.Bool.{not}
 use borrow.Author.Needs.{needs}
+use native.Mathlib.Omega.{arith}
+use borrow.Author.Tests.{not-true, not-false}
+use Rattle.gates.specs.Still.{still-unstamped, still-replayed, still-silent}
 use Rattle.gates.proofs.calls.is_still.Statement.{statement}
 use Rattle.gates.proofs.calls.is_still.Tie as tie
-use Rattle.gates.proofs.calls.is_still.Reads as reads
-use Rattle.gates.proofs.calls.is_still.Lts as lts
-use Rattle.gates.proofs.cell.get_flag.Reads as get-flag-reads
-
-mul-a : tie.Need-mul-a
-mul-a c = search needs
-
-add-get-flag : tie.Need-add-get-flag
-add-get-flag c = search needs
-
-get-flag-requires : tie.Need-get-flag-requires
-get-flag-requires c κs = search needs
 
 returns : tie.Need-returns
-returns c = search needs
-
-add-if2 : tie.Need-add-if2
-add-if2 c = search needs
-
-shared-slice-read-if2 : tie.Need-shared-slice-read-if2
-shared-slice-read-if2 c = search needs
+returns c =
+    let g = c .before in
+    let d = g .before .before in
+    still-unstamped (d .args .s .now) (d .args .i) (d .pre .0) (d .pre .1) (sym (g .get-flag .ensures) ∙ not-true (g .get-flag .result) (c .if1 .taken))
 
 returns-2 : tie.Need-returns-2
-returns-2 c = search needs
-
-add-get-flag-2 : tie.Need-add-get-flag-2
-add-get-flag-2 c = search needs
-
-get-flag-requires-2 : tie.Need-get-flag-requires-2
-get-flag-requires-2 c κs = search needs
+returns-2 c =
+    let f = c .before .before in
+    let g = f .before in
+    let d = g .before .before in
+    still-replayed (d .args .s .now) (d .args .i) (d .pre .0) (d .pre .1) (sym (g .get-flag .ensures) ∙ not-false (g .get-flag .result) (f .if1 .left)) (c .if2 .taken)
 
 returns-3 : tie.Need-returns-3
-returns-3 c = search needs
+returns-3 c =
+    let h = c .before in
+    let f = h .before .before in
+    let g = f .before in
+    let d = g .before .before in
+    ap not (c .get-flag2 .ensures) ∙ still-silent (d .args .s .now) (d .args .i) (d .pre .0) (d .pre .1) (sym (g .get-flag .ensures) ∙ not-false (g .get-flag .result) (f .if1 .left)) (h .if2 .left)
 
 pub is-still-spec : {M : Type 1} → statement M
 is-still-spec =
     tie.close
     (tie.spec
-    mul-a
-    add-get-flag
-    get-flag-requires
+    (λ c. search needs)
+    (λ c. search needs)
+    (λ c κs. search needs)
     returns
-    add-if2
-    shared-slice-read-if2
+    (λ c. search needs)
+    (λ c. search needs)
     returns-2
-    add-get-flag-2
-    get-flag-requires-2
+    (λ c. search needs)
+    (λ c κs. search needs)
     returns-3)

@@ -19,7 +19,7 @@ abbrev μ-loop : tie.MeasureT-loop
 loop-holds : tie.Need-loop-holds Inv-loop μ-loop
 loop-holds c =
     let d = c .before .before .before in
-    rw (c .no-digests .ensures) (fetching-start FitDigest digestIn 32 8 blankDigest fit-blank-digest (d .pre .1) (sym (row-count 256 (d .args .s .now) (d .args .at))))
+    rw (c .no-digests .ensures) (fetching-start FitDigest digestIn 32 8 blankDigest fit-blank-digest (d .pre .1) (c .before .count .ensures ∙ sym (row-count 256 (d .args .s .now) (d .args .at))))
 
 loop-again : tie.Need-loop-again Inv-loop μ-loop
 loop-again c =
@@ -37,8 +37,7 @@ load-digests-spec =
     Inv-loop
     μ-loop
     (λ c. search needs)
-    (λ c. search needs)
-    (λ c. search (needs, c .shared-slice-known2 .given))
+    (λ c κs. search needs)
     (λ c κs. search needs)
     loop-holds
     (λ c. search needs)

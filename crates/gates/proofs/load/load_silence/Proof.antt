@@ -17,6 +17,7 @@ returns c =
       last = c .before .before .before .get-be3 .ensures .0;
       refusing = c .before .before .get-flag2 .ensures;
       until = c .before .get-be4 .ensures .0;
+      wide = record { epoch = search needs; count = search needs; last = search needs; until = search needs };
       fits = c .load-digests .ensures .0;
       counted = c .load-digests .ensures .1;
     })

@@ -1,43 +1,35 @@
+use Prim.Native.Nat.{_-_}
 use borrow.Author.Needs.{needs}
+use native.Mathlib.Omega.{arith}
+use Rattle.rules.specs.Base.{same}
+use Rattle.rules.specs.Gates.{memoryOf}
+use Rattle.laws.specs.Scan.{scan}
+use Rattle.gates.specs.View.{viewGates}
+use Rattle.gates.specs.Walk.{Scanning, scanning-start, scanning-hit, scanning-skip, scanning-end, told-peer}
 use Rattle.gates.proofs.map.find_memory.Statement.{statement}
 use Rattle.gates.proofs.map.find_memory.Tie as tie
-use Rattle.gates.proofs.map.find_memory.Reads as reads
-use Rattle.gates.proofs.map.find_memory.Lts as lts
-use Rattle.gates.proofs.map.memory_count.Reads as memory-count-reads
-use Rattle.node_addr.proofs.place.node_here.Reads as node-here-reads
 
 abbrev Inv-loop : tie.InvT-loop
-Inv-loop s peer end i₀ i = ?
+Inv-loop s peer end i₀ i = Scanning (scan (memoryOf (peer .0)) 0 (viewGates s)) (memoryOf (peer .0)) s end i
 
 abbrev μ-loop : tie.MeasureT-loop
-μ-loop s peer end i₀ i = ?
-
-memory-count-requires : tie.Need-memory-count-requires Inv-loop μ-loop
-memory-count-requires c κs = search needs
+μ-loop s peer end i₀ i = end - i
 
 loop-holds : tie.Need-loop-holds Inv-loop μ-loop
-loop-holds c = search needs
-
-mul-node-here : tie.Need-mul-node-here Inv-loop μ-loop
-mul-node-here c = search needs
-
-node-here-requires : tie.Need-node-here-requires Inv-loop μ-loop
-node-here-requires c κs = search needs
+loop-holds c = scanning-start (memoryOf (c .before .before .args .peer .0)) (c .before .before .pre) (c .memory-count .ensures .0)
 
 returns : tie.Need-returns Inv-loop μ-loop
-returns c = search needs
-
-add-i : tie.Need-add-i Inv-loop μ-loop
-add-i c = search needs
-
-loop-less : tie.Need-loop-less Inv-loop μ-loop
-loop-less c = search needs
+returns c =
+    let d = c .before .before .before .before in
+    scanning-hit (c .before .before .before .loop .inv) (omega arith) (told-peer same (d .before .before .args .peer .0) (c .before .before .before .loop .i) (d .before .before .pre) (d .memory-count .ensures .0) (omega arith) (c .before .node-here .ensures) (c .if1 .taken))
 
 loop-again : tie.Need-loop-again Inv-loop μ-loop
-loop-again c = search needs
+loop-again c =
+    let d = c .before .before .before .before in
+    scanning-skip (c .before .before .before .loop .inv) (omega arith) (told-peer same (d .before .before .args .peer .0) (c .before .before .before .loop .i) (d .before .before .pre) (d .memory-count .ensures .0) (omega arith) (c .before .node-here .ensures) (c .if1 .left))
 
 returns-2 : tie.Need-returns-2 Inv-loop μ-loop
-returns-2 c = search needs
+returns-2 c = scanning-end (c .before .loop .inv) (omega arith)
 
 pub find-memory-spec : {M : Type 1} → statement M
 find-memory-spec =
@@ -45,12 +37,12 @@ find-memory-spec =
     (tie.spec
     Inv-loop
     μ-loop
-    memory-count-requires
+    (λ c κs. search needs)
     loop-holds
-    mul-node-here
-    node-here-requires
+    (λ c. search needs)
+    (λ c κs. search needs)
     returns
-    add-i
-    loop-less
+    (λ c. search needs)
+    (λ c. search needs)
     loop-again
     returns-2)

@@ -1,45 +1,32 @@
+use mathlib.Core.Path.{sym, _∙_}
 use borrow.Author.Needs.{needs}
+use Rattle.laws.specs.Store.{removed-is}
+use Rattle.gates.specs.View.{entryOf, fit-zeros}
+use Rattle.gates.specs.Put.{put-over}
 use Rattle.gates.proofs.map.replace_memory.Statement.{statement}
 use Rattle.gates.proofs.map.replace_memory.Tie as tie
-use Rattle.gates.proofs.map.replace_memory.Reads as reads
-use Rattle.gates.proofs.map.replace_memory.Lts as lts
-use Rattle.gates.proofs.put.put_memory.Reads as put-memory-reads
-use Rattle.memories.proofs.remembered.remembers.Reads as remembers-reads
-use Rattle.memory.proofs.region.remove_chunk.Reads as remove-chunk-reads
-
-remembers-requires : tie.Need-remembers-requires
-remembers-requires c κs = search needs
-
-mul-put-memory : tie.Need-mul-put-memory
-mul-put-memory c = search needs
-
-put-memory-requires : tie.Need-put-memory-requires
-put-memory-requires c κs = search needs
-
-remove-chunk-requires : tie.Need-remove-chunk-requires
-remove-chunk-requires c κs = search needs
-
-same-length : tie.Need-same-length
-same-length c = search needs
 
 returns : tie.Need-returns
-returns c = search needs
-
-same-length-2 : tie.Need-same-length-2
-same-length-2 c = search needs
+returns c =
+    let r = c .before .before .before .before .before in
+    let d = r .before .before in
+    rw (sym (r .remembers .ensures) ∙ c .before .before .before .before .if1 .taken) (put-over (d .args .m) (d .pre .1 .0) (search needs) (d .pre .0) (d .args .i) (d .pre .1 .1) (c .before .before .put-memory .ensures))
 
 returns-2 : tie.Need-returns-2
-returns-2 c = search needs
+returns-2 c =
+    let r = c .before .before .before .before .before in
+    let d = r .before .before in
+    rw (sym (r .remembers .ensures) ∙ c .before .before .before .before .if1 .left) (removed-is entryOf (d .pre .0) (d .pre .1 .1) fit-zeros (c .before .before .remove-chunk .ensures))
 
 pub replace-memory-spec : {M : Type 1} → statement M
 replace-memory-spec =
     tie.close
     (tie.spec
-    remembers-requires
-    mul-put-memory
-    put-memory-requires
-    remove-chunk-requires
-    same-length
+    (λ c κs. search needs)
+    (λ c. search needs)
+    (λ c κs. search needs)
+    (λ c κs. search needs)
+    (λ c. search needs)
     returns
-    same-length-2
+    (λ c. search needs)
     returns-2)

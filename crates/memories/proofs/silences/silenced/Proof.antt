@@ -14,7 +14,7 @@ returns c =
     let t = o .before in
     let a = t .before .before .args in
     let f = t .before .before .pre .0 in (
-      record { unknown = f .unknown; lifted = f .lifted; counted = t .counted-too .ensures .0 },
+      record { wide = record { epoch = f .wide .epoch; count = search needs; last = search needs; until = f .wide .until }; unknown = f .unknown; lifted = f .lifted; counted = t .counted-too .ensures .0 },
       silenced-low
       (viewParams (a .c))
       (a .clock)
@@ -34,7 +34,7 @@ returns-2 c =
     let t = o .before in
     let a = t .before .before .args in
     let f = t .before .before .pre .0 in (
-      record { unknown = f .unknown; lifted = λ e. cc; counted = t .counted-too .ensures .0 },
+      record { wide = record { epoch = f .wide .epoch; count = search needs; last = search needs; until = search needs }; unknown = f .unknown; lifted = λ e. cc; counted = t .counted-too .ensures .0 },
       silenced-high
       (viewParams (a .c))
       (a .clock)
