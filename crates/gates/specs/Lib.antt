@@ -5,3 +5,4 @@ pub mod Walk
 pub mod Order
 pub mod Put
 pub mod Still
+pub mod Same

@@ -12,6 +12,7 @@ use Rattle.rules.specs.Base.{if_then_else_, option, is, empty, Bytes, All, same
 use Rattle.rules.specs.Std.{before, Ascending}
 use Rattle.rules.specs.Std as std
 use Rattle.rules.specs.Data.{Replay, Silence, Memory}
+use Rattle.rules.specs.Bounds.{IfAny, SilenceFits, MemoryFits}
 use Rattle.rules.specs.Gates.{blank, remembers, memoryOf, earlierMemory, memory, store, clear, promoted, ended}
 use Rattle.rules.specs.Time.{Params}
 use Rattle.laws.specs.Shift.{erase, insert, all-at}
@@ -158,3 +159,12 @@ within-memory c p g a = go (scan (memoryOf p) 0 g) refl
     go : (o : Option ℕ) → scan (memoryOf p) 0 g ≡ o → Within c (memory p g)
     go none e = subst (Within c) (memory-none p g e) tt
     go (some i) e = subst (Within c) (memory-at p g i (blank p) e) (all-at (Within c) g i (blank p) a (place-within (memoryOf p) g i e))
+
+-- every table that new or a call left has it so
+pub fits-within : (c : Params) (g : List Memory) → All (MemoryFits c) g → All (Within c) g
+fits-within c [] a = tt
+fits-within c (m ∷ g) a = (go (m .silence) (a .0 .silence), fits-within c g (a .1))
+  where
+    go : (s : Option Silence) → IfAny (SilenceFits c) s → IfAny (λ (s : Silence). length (s .counted) ≤ c .counted) s
+    go none f = tt
+    go (some s) f = f .limit

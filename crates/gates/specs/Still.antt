@@ -35,16 +35,16 @@ module _ (s : Bytes) (i : ℕ) (f : FitGates s) (h : i < gateCount s) where
     still-replayed d =
         let l : length (chunks 40 8 (take 321 (drop (i * 634 + 313) s))) ≡ 8 = length-chunks 40 8 (take 321 (drop (i * 634 + 313) s)) in
         sym (
-          ap still (sym (memory-here s i f h))
-          ∙ rw (e, some-shown replayOf (getD (take 321 (drop (i * 634 + 313) s)) 320 0) (chunks 40 8 (take 321 (drop (i * 634 + 313) s))) (λ q. d (sym replay-count ∙ q)) (omega arith))
+        ap still (sym (memory-here s i f h))
+        ∙ rw (e, some-shown replayOf (getD (take 321 (drop (i * 634 + 313) s)) 320 0) (chunks 40 8 (take 321 (drop (i * 634 + 313) s))) (λ q. d (sym replay-count ∙ q)) (omega arith))
         )
 
     pub still-silent : getD s (i * 634 + 633) 0 ≡ 0 → not (flagOf (take 1 (drop (i * 634 + 25) s))) ≡ still (memoryAt s i)
     still-silent q =
         sym (
-          ap still (sym (memory-here s i f h))
-          ∙ rw (e, none-shown replayOf (getD (take 321 (drop (i * 634 + 313) s)) 320 0) (chunks 40 8 (take 321 (drop (i * 634 + 313) s))) (replay-count ∙ q))
-              (go (flagOf (take 1 (drop (i * 634 + 25) s))) (silenceOf (take 287 (drop (i * 634 + 26) s))))
+        ap still (sym (memory-here s i f h))
+        ∙ rw (e, none-shown replayOf (getD (take 321 (drop (i * 634 + 313) s)) 320 0) (chunks 40 8 (take 321 (drop (i * 634 + 313) s))) (replay-count ∙ q))
+        (go (flagOf (take 1 (drop (i * 634 + 25) s))) (silenceOf (take 287 (drop (i * 634 + 26) s))))
         )
       where
         go : (b : Bool) (x : Silence) → not (is (if b then some x else none)) ≡ not b

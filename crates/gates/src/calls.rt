@@ -45,7 +45,15 @@ pub fn promoted(s: &mut [u8], peer: NodeAddr, digest: Digest, clock: u64, c: Par
 }
 
 // A session of the peer ended unheard; `setup` is the digest of the msg1 that it came from, if it came from one (`answered`).
-pub fn ended(s: &mut [u8], peer: NodeAddr, epoch: u64, answered: bool, setup: Digest, clock: u64, c: Params)
+pub fn ended(
+    s: &mut [u8],
+    peer: NodeAddr,
+    epoch: u64,
+    answered: bool,
+    setup: Digest,
+    clock: u64,
+    c: Params,
+)
     requires { ⌜ FitGates (now s) ⌝ }
     requires { ⌜ Ascending rule.earlierMemory (viewGates (now s)) ⌝ }
     requires { ⌜ All (Within (viewParams c)) (viewGates (now s)) ⌝ }
@@ -128,7 +136,16 @@ pub fn heard(s: &mut [u8], peer: NodeAddr)
 }
 
 // The judgement of what asks.
-pub fn judged(s: &[u8], peer: NodeAddr, source: Source, l: Liveness, digest: Digest, epoch: u64, clock: u64, c: Params) -> Verdict
+pub fn judged(
+    s: &[u8],
+    peer: NodeAddr,
+    source: Source,
+    l: Liveness,
+    digest: Digest,
+    epoch: u64,
+    clock: u64,
+    c: Params,
+) -> Verdict
     requires { ⌜ FitGates (now s) ⌝ }
     ensures { λ r. ⌜ refusedBy r ≡ rule.gate (viewParams c) clock (asking source l digest epoch) (rule.memory (peer .0) (viewGates (now (s .entry)))) ⌝ }
 {

@@ -154,7 +154,15 @@ pub fn judge(m: Memory, l: Liveness, digest: Digest, clock: u64, c: Params) -> V
 }
 
 // The judgement of what asks.
-pub fn gate(m: Memory, source: Source, l: Liveness, digest: Digest, epoch: u64, clock: u64, c: Params) -> Verdict
+pub fn gate(
+    m: Memory,
+    source: Source,
+    l: Liveness,
+    digest: Digest,
+    epoch: u64,
+    clock: u64,
+    c: Params,
+) -> Verdict
     requires { ⌜ FitMemory m ⌝ }
     ensures { λ r. ⌜ refusedBy r ≡ rule.gate (viewParams c) clock (asking source l digest epoch) (viewMemory m) ⌝ }
 {

@@ -16,7 +16,7 @@ returns c =
     let r = c .before .before .replace-memory .ensures in (
       r .0,
       r .1
-      ∙ ap (λ (m : Memory). if remembers m then set (viewGates (a .s .now)) (a .i) m else erase (a .i) (viewGates (a .s .now))) (x .with-clear .ensures .1 ∙ ap clear (x .before .get-memory .ensures .1)),
+          ∙ ap (λ (m : Memory). if remembers m then set (viewGates (a .s .now)) (a .i) m else erase (a .i) (viewGates (a .s .now))) (x .with-clear .ensures .1 ∙ ap clear (x .before .get-memory .ensures .1)),
     )
 
 pub clear-memory-spec : {M : Type 1} → statement M

@@ -13,8 +13,7 @@ use Rattle.gates.proofs.calls.ended.Tie as tie
 ended-by-requires : tie.Need-ended-by-requires
 ended-by-requires c κs =
     let d = c .before .before .before in
-    let a = d .args in
-    (
+    let a = d .args in (
       c .memory-of .ensures .0,
       (d .pre .1 .1 .1 .0, subst (Within (viewParams (a .c))) (sym (c .memory-of .ensures .1)) (within-memory (viewParams (a .c)) (a .peer .0) (viewGates (a .s .now)) (d .pre .1 .1 .0))),
     )

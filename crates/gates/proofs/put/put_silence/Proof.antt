@@ -14,18 +14,18 @@ same-length c = omega (arith, c .before .before .before .before .before .before 
 returns : tie.Need-returns
 returns c =
     put-silence-is _ (
-      wrote-then (
-        wrote-then (
-          wrote-then (
-            wrote-then (
-              wrote-then (
-                wrote-then (c .before .before .before .before .before .before .before .before .before .before .before .before .before .before .before .before .before .before .before .before .before .before .before .before .before .before .before .put-flag .ensures)
-                (c .before .before .before .before .before .before .before .before .before .before .before .before .before .before .before .before .before .before .before .before .before .before .before .put-be .ensures)
-              ) (c .before .before .before .before .before .before .before .before .before .before .before .before .before .before .before .before .before .before .put-be2 .ensures)
-            ) (c .before .before .before .before .before .before .before .before .before .before .before .before .before .before .put-be3 .ensures)
-          ) (c .before .before .before .before .before .before .before .before .before .before .put-flag2 .ensures)
-        ) (c .before .before .before .before .before .before .put-be4 .ensures)
-      ) (c .before .before .put-digests .ensures)
+    wrote-then (
+    wrote-then (
+    wrote-then (
+    wrote-then (
+    wrote-then (
+    wrote-then (c .before .before .before .before .before .before .before .before .before .before .before .before .before .before .before .before .before .before .before .before .before .before .before .before .before .before .before .put-flag .ensures)
+    (c .before .before .before .before .before .before .before .before .before .before .before .before .before .before .before .before .before .before .before .before .before .before .before .put-be .ensures)
+    ) (c .before .before .before .before .before .before .before .before .before .before .before .before .before .before .before .before .before .before .put-be2 .ensures)
+    ) (c .before .before .before .before .before .before .before .before .before .before .before .before .before .before .put-be3 .ensures)
+    ) (c .before .before .before .before .before .before .before .before .before .before .put-flag2 .ensures)
+    ) (c .before .before .before .before .before .before .put-be4 .ensures)
+    ) (c .before .before .put-digests .ensures)
     )
 
 pub put-silence-spec : {M : Type 1} → statement M
