@@ -81,7 +81,7 @@ pub fn stamp(s: &mut [u8], peer: NodeAddr, clock: u64)
 }
 
 // Whether the i-th memory has a stamp and nothing else, told by three bytes.
-pub fn is_still(s: &[u8], i: usize) -> bool
+fn is_still(s: &[u8], i: usize) -> bool
     requires { ⌜ FitGates (now s) ⌝ }
     requires { ⌜ i < gateCount (now s) ⌝ }
     ensures { λ r. ⌜ r ≡ still (memoryAt (now (s .entry)) i) ⌝ }
@@ -97,7 +97,7 @@ pub fn is_still(s: &[u8], i: usize) -> bool
 }
 
 // The i-th memory cleared.
-pub fn clear_memory(s: &mut [u8], i: usize)
+fn clear_memory(s: &mut [u8], i: usize)
     requires { ⌜ FitGates (now s) ⌝ }
     requires { ⌜ i < gateCount (now s) ⌝ }
     ensures { λ r. ⌜ FitGates (now (s .exit)) ⌝ }
@@ -109,7 +109,7 @@ pub fn clear_memory(s: &mut [u8], i: usize)
 }
 
 // The same, where there is something to clear.
-pub fn heard_at(s: &mut [u8], i: usize)
+fn heard_at(s: &mut [u8], i: usize)
     requires { ⌜ FitGates (now s) ⌝ }
     requires { ⌜ i < gateCount (now s) ⌝ }
     ensures { λ r. ⌜ FitGates (now (s .exit)) ⌝ }

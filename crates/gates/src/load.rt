@@ -23,7 +23,7 @@ ghost use Rattle.gates.specs.View.{replayOf, digestOf, silenceOf, FitSil
 ghost use Rattle.gates.specs.Entry.{replayAt};
 
 // A replay of 40 bytes.
-pub fn load_replay(s: &[u8], at: usize) -> Replay
+fn load_replay(s: &[u8], at: usize) -> Replay
     requires { ⌜ at + 40 ≤ length (now s) ⌝ }
     ensures { λ r. ⌜ FitReplay r ⌝ }
     ensures { λ r. ⌜ r ≡ replayAt (now (s .entry)) at ⌝ }
@@ -37,7 +37,7 @@ pub fn load_replay(s: &[u8], at: usize) -> Replay
 }
 
 // The replays of an entry, 321 bytes.
-pub fn load_replays(s: &[u8], at: usize) -> Replays
+fn load_replays(s: &[u8], at: usize) -> Replays
     requires { ⌜ at + 321 ≤ length (now s) ⌝ }
     requires { ⌜ Store AnyBytes 40 8 (take 321 (drop at (now s))) ⌝ }
     ensures { λ r. ⌜ FitReplays r ⌝ }
@@ -56,7 +56,7 @@ pub fn load_replays(s: &[u8], at: usize) -> Replays
 }
 
 // The counted digests of a silence, 257 bytes.
-pub fn load_digests(s: &[u8], at: usize) -> Digests
+fn load_digests(s: &[u8], at: usize) -> Digests
     requires { ⌜ at + 257 ≤ length (now s) ⌝ }
     requires { ⌜ Store AnyBytes 32 8 (take 257 (drop at (now s))) ⌝ }
     ensures { λ r. ⌜ FitDigests r ⌝ }
@@ -75,7 +75,7 @@ pub fn load_digests(s: &[u8], at: usize) -> Digests
 }
 
 // A silence of 287 bytes.
-pub fn load_silence(s: &[u8], at: usize) -> Silence
+fn load_silence(s: &[u8], at: usize) -> Silence
     requires { ⌜ at + 287 ≤ length (now s) ⌝ }
     requires { ⌜ FitSilenceCell (take 287 (drop at (now s))) ⌝ }
     ensures { λ r. ⌜ FitSilence r ⌝ }
@@ -100,7 +100,7 @@ pub fn load_silence(s: &[u8], at: usize) -> Silence
 }
 
 // The silence, if there is one.
-pub fn load_silent(s: &[u8], at: usize, silent: bool) -> Silence
+fn load_silent(s: &[u8], at: usize, silent: bool) -> Silence
     requires { ⌜ at + 287 ≤ length (now s) ⌝ }
     requires { ⌜ FitSilenceCell (take 287 (drop at (now s))) ⌝ }
     ensures { λ r. ⌜ FitSilence r ⌝ }

@@ -52,7 +52,7 @@ pub fn find_memory(s: &[u8], peer: NodeAddr) -> Found
 }
 
 // The place that a peer without a memory takes: before the first that it comes before, else at the end.
-pub fn place_of(s: &[u8], peer: NodeAddr) -> usize
+fn place_of(s: &[u8], peer: NodeAddr) -> usize
     requires { ⌜ FitGates (now s) ⌝ }
     ensures { λ r. ⌜ Takes r (scan (after (peer .0)) 0 (viewGates (now (s .entry)))) (gateCount (now (s .entry))) ⌝ }
 {
@@ -95,7 +95,7 @@ pub fn replace_memory(s: &mut [u8], i: usize, m: Memory)
 }
 
 // A memory of a peer that has none, in the order of peers.
-pub fn insert_memory(s: &mut [u8], m: Memory)
+fn insert_memory(s: &mut [u8], m: Memory)
     requires { ⌜ FitGates (now s) ⌝ }
     requires { ⌜ FitMemory m ⌝ }
     requires { ⌜ gateCount (now s) < 32 ⌝ }
@@ -109,7 +109,7 @@ pub fn insert_memory(s: &mut [u8], m: Memory)
 }
 
 // The same, unless it remembers nothing.
-pub fn add_memory(s: &mut [u8], m: Memory)
+fn add_memory(s: &mut [u8], m: Memory)
     requires { ⌜ FitGates (now s) ⌝ }
     requires { ⌜ FitMemory m ⌝ }
     requires { ⌜ (rule.remembers (viewMemory m) ≡ true → gateCount (now s) < 32) ⌝ }

@@ -17,7 +17,7 @@ ghost use Rattle.memories.specs.View.{FitReplays, FitDigests, FitSilence, FitMe
 ghost use Rattle.gates.specs.Entry.{replayBytes, replaysBytes, digestsBytes, silenceBytes, frontRow, memoryBytes};
 
 // A replay, 40 bytes.
-pub fn put_replay(s: &mut [u8], at: usize, e: Replay) -> usize
+fn put_replay(s: &mut [u8], at: usize, e: Replay) -> usize
     requires { ⌜ at + 40 ≤ length (now s) ⌝ }
     ensures { λ r. ⌜ Wrote (now (s .entry)) at 40 (replayBytes e) (now (s .exit)) r ⌝ }
 {
@@ -27,7 +27,7 @@ pub fn put_replay(s: &mut [u8], at: usize, e: Replay) -> usize
 }
 
 // The replays, 321 bytes.
-pub fn put_replays(s: &mut [u8], at: usize, r: Replays) -> usize
+fn put_replays(s: &mut [u8], at: usize, r: Replays) -> usize
     requires { ⌜ FitReplays r ⌝ }
     requires { ⌜ at + 321 ≤ length (now s) ⌝ }
     ensures { λ q. ⌜ Wrote (now (s .entry)) at 321 (replaysBytes r) (now (s .exit)) q ⌝ }
@@ -42,7 +42,7 @@ pub fn put_replays(s: &mut [u8], at: usize, r: Replays) -> usize
 }
 
 // The counted digests, 257 bytes.
-pub fn put_digests(s: &mut [u8], at: usize, d: Digests) -> usize
+fn put_digests(s: &mut [u8], at: usize, d: Digests) -> usize
     requires { ⌜ FitDigests d ⌝ }
     requires { ⌜ at + 257 ≤ length (now s) ⌝ }
     ensures { λ q. ⌜ Wrote (now (s .entry)) at 257 (digestsBytes d) (now (s .exit)) q ⌝ }
@@ -57,7 +57,7 @@ pub fn put_digests(s: &mut [u8], at: usize, d: Digests) -> usize
 }
 
 // A silence, 287 bytes.
-pub fn put_silence(s: &mut [u8], at: usize, x: Silence) -> usize
+fn put_silence(s: &mut [u8], at: usize, x: Silence) -> usize
     requires { ⌜ FitSilence x ⌝ }
     requires { ⌜ at + 287 ≤ length (now s) ⌝ }
     ensures { λ q. ⌜ Wrote (now (s .entry)) at 287 (silenceBytes x) (now (s .exit)) q ⌝ }
@@ -73,7 +73,7 @@ pub fn put_silence(s: &mut [u8], at: usize, x: Silence) -> usize
 }
 
 // The peer, the stamp, and whether there is a silence: 26 bytes.
-pub fn put_front(s: &mut [u8], at: usize, m: Memory) -> usize
+fn put_front(s: &mut [u8], at: usize, m: Memory) -> usize
     requires { ⌜ at + 26 ≤ length (now s) ⌝ }
     ensures { λ q. ⌜ Wrote (now (s .entry)) at 26 (frontRow m) (now (s .exit)) q ⌝ }
 {
