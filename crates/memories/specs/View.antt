@@ -6,7 +6,7 @@ use mathlib.Core.List.{List, [], _∷_, map}
 use Prim.Native.Nat.{ℕ, _≤_}
 use lib.Dec.{lit≤, lit<}
 use lib.ListN.{length, take, replicate}
-use mir.Syntax.{w64}
+use mir.Syntax.{w32, w64}
 use mir.Val.{Fits}
 use Rattle.rules.specs.Base.{if_then_else_, Bytes}
 use Rattle.rules.specs.Data as rule
@@ -96,7 +96,15 @@ FitReplays r = Kept FitReplay blankReplay 8 (r .len) (r .places)
 abbrev pub FitDigests : Digests → Type 0
 FitDigests d = Kept FitDigest blankDigest 8 (d .len) (d .places)
 
+-- each number is one of its type
+pub record WideSilence (s : Silence) : Type 0 where
+  pub epoch : Fits w64 (s .epoch)
+  pub count : Fits w32 (s .count)
+  pub last : Fits w64 (s .last)
+  pub until : Fits w64 (s .until)
+
 pub record FitSilence (s : Silence) : Type 0 where
+  pub wide : WideSilence s
   pub unknown : s .known ≡ false → s .epoch ≡ 0
   pub lifted : s .refusing ≡ false → s .until ≡ 0
   pub counted : FitDigests (s .counted)
@@ -131,7 +139,10 @@ pub fit-no-digests : FitDigests blankDigests
 fit-no-digests = record { small = lit≤ tt; size = refl; rest = refl; each = all-replicate FitDigest 8 blankDigest fit-blank-digest }
 
 pub fit-blank-silence : FitSilence blankSilence
-fit-blank-silence = record { unknown = λ e. refl; lifted = λ e. refl; counted = fit-no-digests }
+fit-blank-silence = record { wide = record { epoch = zero; count = record { fits = lit< tt }; last = zero; until = zero }; unknown = λ e. refl; lifted = λ e. refl; counted = fit-no-digests }
+  where
+    zero : Fits w64 0
+    zero = record { fits = lit< tt }
 
 pub fit-blank-memory : (p : NodeAddr) → length (p .0) ≡ 16 → FitMemory (blankMemory p)
 fit-blank-memory p e = record { peer = e; unstamped = λ e. refl; replays = fit-no-replays; silence = fit-blank-silence; quiet = λ e. refl }

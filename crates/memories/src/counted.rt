@@ -12,7 +12,7 @@ ghost use Rattle.rules.specs.Base.{if_then_else_, same, any};
 ghost use Rattle.memories.specs.View.{viewDigests, FitDigests};
 
 // One more.
-pub fn push_digest(r: Digests, digest: Digest) -> Digests
+fn push_digest(r: Digests, digest: Digest) -> Digests
     requires { ⌜ FitDigests r ⌝ }
     requires { ⌜ r .len < 8 ⌝ }
     ensures { λ x. ⌜ FitDigests x ⌝ }
@@ -26,7 +26,7 @@ pub fn push_digest(r: Digests, digest: Digest) -> Digests
 }
 
 // The oldest gone.
-pub fn without_first(r: Digests) -> Digests
+fn without_first(r: Digests) -> Digests
     requires { ⌜ FitDigests r ⌝ }
     requires { ⌜ 0 < r .len ⌝ }
     ensures { λ x. ⌜ FitDigests x ⌝ }

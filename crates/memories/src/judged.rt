@@ -38,7 +38,7 @@ pub fn silencing(m: Memory, epoch: u64, clock: u64) -> bool
 }
 
 // Whether the silences refuse what asks.
-pub fn silenced_for(m: Memory, source: Source, epoch: u64, clock: u64) -> bool
+fn silenced_for(m: Memory, source: Source, epoch: u64, clock: u64) -> bool
     ensures { λ r. ⌜ r ≡ rule.asksSilence (sourceOf source) && rule.silencing (some epoch) clock (viewMemory m) ⌝ }
 {
     match source {
@@ -51,7 +51,7 @@ pub fn silenced_for(m: Memory, source: Source, epoch: u64, clock: u64) -> bool
 }
 
 // Whether what asks may be refused for the peering that it would end.
-pub fn gated(source: Source) -> bool
+fn gated(source: Source) -> bool
     ensures { λ r. ⌜ r ≡ rule.gated (sourceOf source) ⌝ }
 {
     match source {
@@ -64,7 +64,7 @@ pub fn gated(source: Source) -> bool
 }
 
 // The first refusal of two.
-pub fn first_of(a: Verdict, b: Verdict) -> Verdict
+fn first_of(a: Verdict, b: Verdict) -> Verdict
     ensures { λ r. ⌜ refusedBy r ≡ orElse (refusedBy a) (refusedBy b) ⌝ }
 {
     match a {
@@ -74,7 +74,7 @@ pub fn first_of(a: Verdict, b: Verdict) -> Verdict
 }
 
 // Over the replays younger than the interval: the digest is among them, or there are as many as may be.
-pub fn replayed(m: Memory, digest: Digest, clock: u64, c: Params) -> Verdict
+fn replayed(m: Memory, digest: Digest, clock: u64, c: Params) -> Verdict
     requires { ⌜ FitMemory m ⌝ }
     ensures { λ r. ⌜ refusedBy r ≡ rule.replayed (viewParams c) clock (digest .0) (viewMemory m) ⌝ }
 {
@@ -91,7 +91,7 @@ pub fn replayed(m: Memory, digest: Digest, clock: u64, c: Params) -> Verdict
 }
 
 // The same, asked only of a peering that is unheard.
-pub fn unheard_replayed(m: Memory, l: Liveness, digest: Digest, clock: u64, c: Params) -> Verdict
+fn unheard_replayed(m: Memory, l: Liveness, digest: Digest, clock: u64, c: Params) -> Verdict
     requires { ⌜ FitMemory m ⌝ }
     ensures { λ r. ⌜ refusedBy r ≡ (if l .heard then none else rule.replayed (viewParams c) clock (digest .0) (viewMemory m)) ⌝ }
 {
@@ -102,7 +102,7 @@ pub fn unheard_replayed(m: Memory, l: Liveness, digest: Digest, clock: u64, c: P
 }
 
 // When the peering was last alive: its last frame, else its installation.
-pub fn alive_at(l: Liveness) -> u64
+fn alive_at(l: Liveness) -> u64
     ensures { λ r. ⌜ r ≡ option (heldOf l .last) (heldOf l .installed) (λ x. x) ⌝ }
 {
     if l.dated {
@@ -112,7 +112,7 @@ pub fn alive_at(l: Liveness) -> u64
 }
 
 // The peering is too young to be given up: one heard within the interval, one unheard younger than `unheard`.
-pub fn young(l: Liveness, clock: u64, c: Params) -> Verdict
+fn young(l: Liveness, clock: u64, c: Params) -> Verdict
     ensures { λ r. ⌜ refusedBy r ≡ rule.young (viewParams c) clock (heldOf l) ⌝ }
 {
     if l.heard {
@@ -129,7 +129,7 @@ pub fn young(l: Liveness, clock: u64, c: Params) -> Verdict
 }
 
 // A heard peering was given up within the interval.
-pub fn dampened(m: Memory, clock: u64, c: Params) -> Verdict
+fn dampened(m: Memory, clock: u64, c: Params) -> Verdict
     ensures { λ r. ⌜ refusedBy r ≡ rule.dampened (viewParams c) clock (viewMemory m) ⌝ }
 {
     if !m.stamped {
@@ -154,7 +154,15 @@ pub fn judge(m: Memory, l: Liveness, digest: Digest, clock: u64, c: Params) -> V
 }
 
 // The judgement of what asks.
-pub fn gate(m: Memory, source: Source, l: Liveness, digest: Digest, epoch: u64, clock: u64, c: Params) -> Verdict
+pub fn gate(
+    m: Memory,
+    source: Source,
+    l: Liveness,
+    digest: Digest,
+    epoch: u64,
+    clock: u64,
+    c: Params,
+) -> Verdict
     requires { ⌜ FitMemory m ⌝ }
     ensures { λ r. ⌜ refusedBy r ≡ rule.gate (viewParams c) clock (asking source l digest epoch) (viewMemory m) ⌝ }
 {

@@ -88,7 +88,14 @@ pub fn promoted_by(m: Memory, digest: Digest, clock: u64, c: Params) -> Memory
 }
 
 // A session ended unheard; `setup` is the digest of the msg1 that it came from, if it came from one (`answered`).
-pub fn ended_by(m: Memory, epoch: u64, answered: bool, setup: Digest, clock: u64, c: Params) -> Memory
+pub fn ended_by(
+    m: Memory,
+    epoch: u64,
+    answered: bool,
+    setup: Digest,
+    clock: u64,
+    c: Params,
+) -> Memory
     requires { ⌜ FitMemory m ⌝ }
     requires { ⌜ FitParams c ⌝ }
     requires { ⌜ Within (viewParams c) (viewMemory m) ⌝ }

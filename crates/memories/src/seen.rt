@@ -14,7 +14,7 @@ ghost use Rattle.rules.specs.Gates.{recentReplays, seenIn, limited, noted};
 ghost use Rattle.memories.specs.View.{viewReplay, viewReplays, FitReplay, FitReplays, spanned};
 
 // One more.
-pub fn push_replay(r: Replays, e: Replay) -> Replays
+fn push_replay(r: Replays, e: Replay) -> Replays
     requires { ⌜ FitReplays r ⌝ }
     requires { ⌜ FitReplay e ⌝ }
     requires { ⌜ r .len < 8 ⌝ }
@@ -30,7 +30,7 @@ pub fn push_replay(r: Replays, e: Replay) -> Replays
 }
 
 // One more, if it is to be kept.
-pub fn push_if(r: Replays, e: Replay, keeps: bool) -> Replays
+fn push_if(r: Replays, e: Replay, keeps: bool) -> Replays
     requires { ⌜ FitReplays r ⌝ }
     requires { ⌜ FitReplay e ⌝ }
     requires { ⌜ r .len < 8 ⌝ }
@@ -63,7 +63,7 @@ pub fn recent_replays(r: Replays, clock: u64, interval: u64) -> Replays
 }
 
 // The oldest gone.
-pub fn without_oldest(r: Replays) -> Replays
+fn without_oldest(r: Replays) -> Replays
     requires { ⌜ FitReplays r ⌝ }
     requires { ⌜ 0 < r .len ⌝ }
     ensures { λ x. ⌜ FitReplays x ⌝ }
@@ -102,7 +102,7 @@ pub fn seen_in(r: Replays, digest: Digest) -> bool
 }
 
 // At most so many: past the limit the oldest goes.
-pub fn limited_to(r: Replays, limit: usize) -> Replays
+fn limited_to(r: Replays, limit: usize) -> Replays
     requires { ⌜ FitReplays r ⌝ }
     ensures { λ x. ⌜ FitReplays x ⌝ }
     ensures { λ x. ⌜ viewReplays x ≡ limited limit (viewReplays r) ⌝ }

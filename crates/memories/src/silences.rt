@@ -20,7 +20,7 @@ ghost use Rattle.memories.specs.View.{optional, viewDigests, viewSilence
 ghost use Rattle.memories.specs.Silences.{newSilence, endedIn};
 
 // A silence at an epoch with nothing counted.
-pub fn new_silence(epoch: u64, clock: u64) -> Silence
+fn new_silence(epoch: u64, clock: u64) -> Silence
     ensures { λ r. ⌜ FitSilence r ⌝ }
     ensures { λ r. ⌜ viewSilence r ≡ newSilence epoch clock ⌝ }
     ensures { λ r. ⌜ r .counted .len ≡ 0 ⌝ }
@@ -38,7 +38,7 @@ pub fn new_silence(epoch: u64, clock: u64) -> Silence
 }
 
 // The end of the refusal, else the last count.
-pub fn silent_since(s: Silence) -> u64
+fn silent_since(s: Silence) -> u64
     ensures { λ r. ⌜ r ≡ option (viewSilence s .until) (viewSilence s .last) (λ u. u) ⌝ }
 {
     if s.refusing {
@@ -82,7 +82,7 @@ pub fn counting(s: Silence, silent: bool, epoch: u64, clock: u64, c: Params) -> 
 }
 
 // One more, up to the greatest.
-pub fn one_more(count: u32) -> u32
+fn one_more(count: u32) -> u32
     ensures { λ r. ⌜ r ≡ saturatingAdd count 1 ⌝ }
 {
     if count == 4294967295 {
@@ -92,7 +92,7 @@ pub fn one_more(count: u32) -> u32
 }
 
 // Whether the session's digest was counted already.
-pub fn already(r: Digests, answered: bool, setup: Digest) -> bool
+fn already(r: Digests, answered: bool, setup: Digest) -> bool
     requires { ⌜ FitDigests r ⌝ }
     ensures { λ x. ⌜ x ≡ option (optional answered (setup .0)) false (λ e. any (same e) (viewDigests r)) ⌝ }
 {
@@ -103,7 +103,7 @@ pub fn already(r: Digests, answered: bool, setup: Digest) -> bool
 }
 
 // The digests with the session's.
-pub fn counted_too(r: Digests, answered: bool, setup: Digest, c: Params) -> Digests
+fn counted_too(r: Digests, answered: bool, setup: Digest, c: Params) -> Digests
     requires { ⌜ FitDigests r ⌝ }
     requires { ⌜ FitParams c ⌝ }
     requires { ⌜ r .len ≤ c .counted ⌝ }
@@ -117,7 +117,7 @@ pub fn counted_too(r: Digests, answered: bool, setup: Digest, c: Params) -> Dige
 }
 
 // One more silence; from so many on a msg1 is refused for a while.
-pub fn silenced(s: Silence, answered: bool, setup: Digest, clock: u64, c: Params) -> Silence
+fn silenced(s: Silence, answered: bool, setup: Digest, clock: u64, c: Params) -> Silence
     requires { ⌜ FitSilence s ⌝ }
     requires { ⌜ FitParams c ⌝ }
     requires { ⌜ s .counted .len ≤ c .counted ⌝ }

@@ -22,7 +22,7 @@ returns-2 c =
     let a = r .before .before .args in
     let l = shown-length viewReplay (r .recent-replays .ensures .0) in
     rw (sym (d .before .seen-in .ensures) ∙ d .if1 .left, l, le-leb (a .c .replays) (r .recent-replays .result .len) (omega arith)) at (
-      replayed-of (viewParams (a .c)) (a .clock) (a .digest .0) (viewMemory (a .m)) (viewReplays (r .recent-replays .result)) (r .recent-replays .ensures .1))
+    replayed-of (viewParams (a .c)) (a .clock) (a .digest .0) (viewMemory (a .m)) (viewReplays (r .recent-replays .result)) (r .recent-replays .ensures .1))
 
 returns-3 : tie.Need-returns-3
 returns-3 c =
@@ -31,7 +31,7 @@ returns-3 c =
     let a = r .before .before .args in
     let l = shown-length viewReplay (r .recent-replays .ensures .0) in
     rw (sym (d .before .seen-in .ensures) ∙ d .if1 .left, l, lt-leb (a .c .replays) (r .recent-replays .result .len) (omega arith)) at (
-      replayed-of (viewParams (a .c)) (a .clock) (a .digest .0) (viewMemory (a .m)) (viewReplays (r .recent-replays .result)) (r .recent-replays .ensures .1))
+    replayed-of (viewParams (a .c)) (a .clock) (a .digest .0) (viewMemory (a .m)) (viewReplays (r .recent-replays .result)) (r .recent-replays .ensures .1))
 
 pub replayed-spec : {M : Type 1} → statement M
 replayed-spec = tie.close (tie.spec (λ c κs. search needs) (λ c κs. search needs) returns (λ c. search needs) returns-2 returns-3)

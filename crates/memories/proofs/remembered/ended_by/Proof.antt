@@ -21,15 +21,15 @@ returns c =
     let f = d .pre .0 in (
       record { peer = f .peer; unstamped = f .unstamped; replays = f .replays; silence = c .ended-in .ensures .0; quiet = λ e. cc },
       ended-of
-      (viewParams (a .c))
-      (a .clock)
-      (some (a .epoch))
-      (optional (a .answered) (a .setup .0))
-      (viewMemory (a .m))
-      (viewSilence (s .counting .result))
-      (viewSilence (c .ended-in .result))
-      (s .counting .ensures .1 .0)
-      (c .ended-in .ensures .1),
+          (viewParams (a .c))
+          (a .clock)
+          (some (a .epoch))
+          (optional (a .answered) (a .setup .0))
+          (viewMemory (a .m))
+          (viewSilence (s .counting .result))
+          (viewSilence (c .ended-in .result))
+          (s .counting .ensures .1 .0)
+          (c .ended-in .ensures .1),
     )
 
 pub ended-by-spec : {M : Type 1} → statement M

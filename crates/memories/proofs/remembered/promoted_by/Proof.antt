@@ -12,14 +12,14 @@ returns c =
     let f = p .with-prune .ensures .0 in (
       record { peer = f .peer; unstamped = f .unstamped; replays = c .noted-in .ensures .0; silence = f .silence; quiet = f .quiet },
       promoted-of
-      (viewParams (a .c))
-      (a .clock)
-      (a .digest .0)
-      (viewMemory (a .m))
-      (viewMemory (p .with-prune .result))
-      (viewReplays (c .noted-in .result))
-      (p .with-prune .ensures .1)
-      (c .noted-in .ensures .1),
+          (viewParams (a .c))
+          (a .clock)
+          (a .digest .0)
+          (viewMemory (a .m))
+          (viewMemory (p .with-prune .result))
+          (viewReplays (c .noted-in .result))
+          (p .with-prune .ensures .1)
+          (c .noted-in .ensures .1),
     )
 
 pub promoted-by-spec : {M : Type 1} → statement M

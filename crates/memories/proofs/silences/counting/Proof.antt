@@ -28,7 +28,7 @@ returns-3 c =
     let d = e .before in
     let a = d .before .before .args in
     let f = d .before .before .pre in (
-      record { unknown = λ q. cc; lifted = f .lifted; counted = f .counted },
+      record { wide = record { epoch = search needs; count = f .wide .count; last = f .wide .last; until = f .wide .until }; unknown = λ q. cc; lifted = f .lifted; counted = f .counted },
       (count-unknown (viewParams (a .c)) (a .clock) (a .epoch) (a .s) (a .silent) (d .before .if1 .left) (sym (d .expired .ensures) ∙ e .if2 .left) (c .if3 .taken), omega arith),
     )
 

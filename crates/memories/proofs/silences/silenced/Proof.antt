@@ -14,17 +14,17 @@ returns c =
     let t = o .before in
     let a = t .before .before .args in
     let f = t .before .before .pre .0 in (
-      record { unknown = f .unknown; lifted = f .lifted; counted = t .counted-too .ensures .0 },
+      record { wide = record { epoch = f .wide .epoch; count = search needs; last = search needs; until = f .wide .until }; unknown = f .unknown; lifted = f .lifted; counted = t .counted-too .ensures .0 },
       silenced-low
-      (viewParams (a .c))
-      (a .clock)
-      (optional (a .answered) (a .setup .0))
-      (viewSilence (a .s))
-      (o .one-more .result)
-      (viewDigests (t .counted-too .result))
-      (o .one-more .ensures)
-      (t .counted-too .ensures .1)
-      (omega arith),
+          (viewParams (a .c))
+          (a .clock)
+          (optional (a .answered) (a .setup .0))
+          (viewSilence (a .s))
+          (o .one-more .result)
+          (viewDigests (t .counted-too .result))
+          (o .one-more .ensures)
+          (t .counted-too .ensures .1)
+          (omega arith),
     )
 
 returns-2 : tie.Need-returns-2
@@ -34,21 +34,21 @@ returns-2 c =
     let t = o .before in
     let a = t .before .before .args in
     let f = t .before .before .pre .0 in (
-      record { unknown = f .unknown; lifted = λ e. cc; counted = t .counted-too .ensures .0 },
+      record { wide = record { epoch = f .wide .epoch; count = search needs; last = search needs; until = search needs }; unknown = f .unknown; lifted = λ e. cc; counted = t .counted-too .ensures .0 },
       silenced-high
-      (viewParams (a .c))
-      (a .clock)
-      (optional (a .answered) (a .setup .0))
-      (viewSilence (a .s))
-      (o .one-more .result)
-      (viewDigests (t .counted-too .result))
-      (o .one-more .ensures)
-      (t .counted-too .ensures .1)
-      (c .deadline .result)
-      (fromNanos (b .backoff .result))
-      (omega arith)
-      (c .deadline .ensures)
-      (b .backoff .ensures),
+          (viewParams (a .c))
+          (a .clock)
+          (optional (a .answered) (a .setup .0))
+          (viewSilence (a .s))
+          (o .one-more .result)
+          (viewDigests (t .counted-too .result))
+          (o .one-more .ensures)
+          (t .counted-too .ensures .1)
+          (c .deadline .result)
+          (fromNanos (b .backoff .result))
+          (omega arith)
+          (c .deadline .ensures)
+          (b .backoff .ensures),
     )
 
 pub silenced-spec : {M : Type 1} → statement M
