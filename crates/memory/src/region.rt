@@ -7,12 +7,6 @@ ghost use Prim.Native.Nat.{_*_, _<_};
 ghost use lib.ListN.{length, getD};
 ghost use Rattle.laws.specs.Store.{Closes, Opens, erased, gapped};
 
-// What a search of a map answers: the place of the first entry that passes.
-pub enum Found {
-    At(usize),
-    Nothing,
-}
-
 // How many entries there are; `end` is the place after the last of the cap entries.
 pub fn count(s: &[u8], end: usize) -> usize
     requires { ⌜ end < length (now s) ⌝ }

@@ -1,19 +1,20 @@
--- Parts of parts, and what a comparison of whole buffers says of what is in use.
+-- Parts of parts, runs in two parts, and what a comparison of whole buffers says of what is in use.
 use mathlib.Core.Path.{_≡_, refl, sym, ap, _∙_}
-use mathlib.Core.Bool.{Bool, true, false}
+use mathlib.Core.Bool.{Bool, true, false, _&&_}
 use mathlib.Core.List.{[], _∷_}
 use Prim.Native.Nat.{ℕ, zero, suc, _+_, _≤_}
 use native.Mathlib.Nat.{add-zero}
 use native.Mathlib.Omega.{arith}
 use borrow.Author.Tests.{eq-eqb, ne-eqb}
 use lib.Dec.{lit<}
-use lib.Seq.{getD-take, getD-drop, take-take, take-all}
-use lib.ListN.{length, take, drop, getD, take-append-drop}
+use lib.Seq.{take-add, drop-drop, getD-take, getD-drop, take-take, take-all}
+use lib.ListN.{length, take, drop, getD, take-append-drop, length-take, length-drop}
 use Rattle.rules.specs.Base.{Bytes, same}
 use Rattle.rules.specs.Std.{before}
 use Rattle.rules.specs.Data.{Pair, samePair}
 use Rattle.laws.specs.Shift.{Kept}
 use Rattle.laws.specs.Buffer.{Any, kept-length}
+use Rattle.laws.specs.Words.{same-append}
 use Rattle.laws.specs.Beside.{same-yes, same-no, same-true, same-apart}
 
 -- a part of a part
@@ -26,6 +27,20 @@ part-of (suc o) w (suc m) (x ∷ u) h = part-of o w m u (omega arith)
 -- a byte is a part of one byte
 pub byte-here : (s : Bytes) (at : ℕ) → getD s at 0 ≡ getD (take 1 (drop at s)) 0 0
 byte-here s at = sym (getD-take 1 (drop at s) 0 0 (lit< tt) ∙ getD-drop at s 0 0 ∙ ap (λ (i : ℕ). getD s i 0) (add-zero at))
+
+-- a run in two parts
+module _ (k m : ℕ) (s : Bytes) (at : ℕ) (t : Bytes) (from : ℕ) (h : at + k ≤ length s) (g : from + k ≤ length t) where
+  two-runs : same (take (k + m) (drop at s)) (take (k + m) (drop from t)) ≡ (same (take k (drop at s)) (take k (drop from t)) && same (take m (drop (at + k) s)) (take m (drop (from + k) t)))
+  two-runs =
+      rw (take-add k m (drop at s), take-add k m (drop from t), drop-drop k at s, drop-drop k from t) (
+      same-append (take k (drop at s)) (take k (drop from t)) (take m (drop (at + k) s)) (take m (drop (from + k) t)) (simp (length-take, length-drop) (omega arith)))
+
+  pub first-differs : same (take k (drop at s)) (take k (drop from t)) ≡ false → false ≡ same (take (k + m) (drop at s)) (take (k + m) (drop from t))
+  first-differs e = sym (two-runs ∙ rw e)
+
+  pub second-decides : {r : Bool} → same (take k (drop at s)) (take k (drop from t)) ≡ true → r ≡ same (take m (drop (at + k) s)) (take m (drop (from + k) t))
+      → r ≡ same (take (k + m) (drop at s)) (take (k + m) (drop from t))
+  second-decides e f = f ∙ sym (two-runs ∙ rw e)
 
 same-differ : (x y : Bytes) → same x y ≡ false → x ≡ y → ⊥
 same-differ x y e q = let z : _≡_ {A = Bool} true false = sym (same-yes x y q) ∙ e in let u : _≡_ {A = ℕ} 0 1 = cc in omega arith

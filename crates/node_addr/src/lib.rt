@@ -1,5 +1,6 @@
 // Node addresses, transport addresses, digests and messages, by value.
 pub mod place;
+pub mod run;
 pub mod same;
 
 ghost use mathlib.Core.Path.{_≡_};

@@ -5,6 +5,8 @@ use crate::Message;
 use crate::NodeAddr;
 use crate::Pair;
 use crate::TransportId;
+use crate::run::same_32;
+use crate::run::same_48;
 use memory::compare::before_run;
 use memory::compare::same_run;
 use memory::read::get_be;
@@ -83,7 +85,7 @@ pub fn digest_here(s: &[u8], at: usize, d: Digest) -> bool
     ensures { λ r. ⌜ r ≡ same (d .0) (take 32 (drop at (now (s .entry)))) ⌝ }
 {
     let b = d.0;
-    same_run(&b, 0, s, at, 32)
+    same_32(&b, 0, s, at)
 }
 
 pub fn load_pair(s: &[u8], at: usize) -> Pair
@@ -129,7 +131,7 @@ pub fn pair_here(s: &[u8], at: usize, p: Pair) -> bool
         return false;
     }
     let b = p.addr.bytes;
-    same_run(&b, 0, s, at + 5, 48)
+    same_48(&b, 0, s, at + 5)
 }
 
 pub fn load_message(s: &[u8], at: usize) -> Message

@@ -4,6 +4,8 @@ use crate::Digest;
 use crate::Message;
 use crate::NodeAddr;
 use crate::Pair;
+use crate::run::same_32;
+use crate::run::same_48;
 use memory::compare::before_run;
 use memory::compare::same_run;
 ghost use mathlib.Core.Path.{_≡_};
@@ -33,7 +35,7 @@ pub fn same_digest(a: Digest, b: Digest) -> bool
 {
     let x = a.0;
     let y = b.0;
-    same_run(&x, 0, &y, 0, 32)
+    same_32(&x, 0, &y, 0)
 }
 
 pub fn same_addr(a: Addr, b: Addr) -> bool
@@ -46,7 +48,7 @@ pub fn same_addr(a: Addr, b: Addr) -> bool
     }
     let x = a.bytes;
     let y = b.bytes;
-    same_run(&x, 0, &y, 0, 48)
+    same_48(&x, 0, &y, 0)
 }
 
 pub fn same_pair(a: Pair, b: Pair) -> bool

@@ -1,4 +1,4 @@
--- What the settings show.
+-- What the settings show, and which are within range.
 use mathlib.Core.Path.{_≡_, refl, sym, ap, _∙_}
 use mathlib.Core.Bool.{Bool, true, false, not, _||_}
 use Prim.Native.Nat.{ℕ, _≤_, _<_}

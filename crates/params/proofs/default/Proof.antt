@@ -1,3 +1,4 @@
+-- `params::default` meets its contract.
 use mathlib.Core.Path.{refl}
 use Rattle.rules.specs.Time.{default}
 use Rattle.params.proofs.default.Statement.{statement}

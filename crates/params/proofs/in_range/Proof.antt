@@ -1,3 +1,4 @@
+-- `params::in_range` meets its contract.
 use borrow.Author.Needs.{needs}
 use Rattle.params.specs.View.{viewParams, range-none, range-more, range-is}
 use Rattle.params.proofs.in_range.Statement.{statement}

@@ -1,3 +1,4 @@
+-- `node_addr::place::before_here` meets its contract.
 use mathlib.Core.Path.{_≡_}
 use lib.ListN.{length, take, drop}
 use native.Mathlib.Omega.{arith}

@@ -1,3 +1,4 @@
+-- `node_addr::place::load_pair` meets its contract.
 use Rattle.node_addr.specs.Place.{pair-loaded}
 use borrow.Author.Needs.{needs}
 use Rattle.node_addr.proofs.place.load_pair.Statement.{statement}

@@ -1,3 +1,4 @@
+-- `node_addr::place::message_here` meets its contract.
 use Rattle.node_addr.specs.Place.{message-longer, message-beside}
 use borrow.Author.Needs.{needs}
 use Rattle.node_addr.proofs.place.message_here.Statement.{statement}

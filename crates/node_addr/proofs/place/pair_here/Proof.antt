@@ -1,3 +1,4 @@
+-- `node_addr::place::pair_here` meets its contract.
 use Rattle.node_addr.specs.Place.{pair-other, pair-longer, pair-beside}
 use borrow.Author.Needs.{needs}
 use Rattle.node_addr.proofs.place.pair_here.Statement.{statement}
@@ -38,7 +39,7 @@ returns-3 c =
     (search needs)
     (e .before .before .get-byte .ensures)
     (search needs)
-    (c .same-run .ensures)
+    (c .same-48 .ensures)
 
 pub pair-here-spec : {M : Type 1} → statement M
 pair-here-spec =

@@ -1,3 +1,4 @@
+-- `node_addr::place::put_message` meets its contract.
 use Rattle.laws.specs.Splice.{wrote-then}
 use Rattle.node_addr.specs.Place.{message-written}
 use borrow.Author.Needs.{needs}

@@ -1,3 +1,4 @@
+-- `node_addr::same::node_before` meets its contract.
 use mathlib.Core.Path.{_≡_}
 use native.Mathlib.Omega.{arith}
 use borrow.Author.Needs.{needs}

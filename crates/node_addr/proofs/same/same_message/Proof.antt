@@ -1,3 +1,4 @@
+-- `node_addr::same::same_message` meets its contract.
 use borrow.Author.Needs.{needs}
 use Rattle.node_addr.specs.Alike.{same-kept, same-unlike}
 use Rattle.node_addr.proofs.same.same_message.Statement.{statement}

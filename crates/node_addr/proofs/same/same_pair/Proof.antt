@@ -1,3 +1,4 @@
+-- `node_addr::same::same_pair` meets its contract.
 use borrow.Author.Needs.{needs}
 use Rattle.node_addr.specs.View.{viewPair}
 use Rattle.node_addr.specs.Alike.{pair-unlike, pair-like}

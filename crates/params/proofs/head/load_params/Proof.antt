@@ -1,3 +1,4 @@
+-- `params::head::load_params` meets its contract.
 use mathlib.Core.Path.{sym, _∙_}
 use Rattle.node_addr.specs.Alike.{byte-here}
 use Rattle.params.specs.Head.{settings-at}

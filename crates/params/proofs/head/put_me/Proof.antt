@@ -1,3 +1,4 @@
+-- `params::head::put_me` meets its contract.
 use Rattle.params.specs.Head.{me-written, shows-keeps}
 use borrow.Author.Needs.{needs}
 use Rattle.params.proofs.head.put_me.Statement.{statement}

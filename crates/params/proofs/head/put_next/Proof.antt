@@ -1,3 +1,4 @@
+-- `params::head::put_next` meets its contract.
 use Rattle.params.specs.Head.{next-written, shows-keeps}
 use borrow.Author.Needs.{needs}
 use Rattle.params.proofs.head.put_next.Statement.{statement}

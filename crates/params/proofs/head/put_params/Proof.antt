@@ -1,3 +1,4 @@
+-- `params::head::put_params` meets its contract.
 use Rattle.laws.specs.Splice.{wrote-then}
 use Rattle.params.specs.Head.{settings-written, params-written, shows-fit}
 use borrow.Author.Needs.{needs}

@@ -1,3 +1,4 @@
+-- `params::head::put_spans` meets its contract.
 use Rattle.laws.specs.Splice.{wrote-then}
 use borrow.Author.Needs.{needs}
 use Rattle.params.proofs.head.put_spans.Statement.{statement}

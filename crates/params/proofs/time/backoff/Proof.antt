@@ -1,3 +1,4 @@
+-- `params::time::backoff` meets its contract.
 use Rattle.params.specs.Later.{timing}
 use Rattle.params.proofs.time.backoff.Statement.{statement}
 use Rattle.params.proofs.time.backoff.Tie as tie

@@ -1,3 +1,4 @@
+-- `params::time::factor` meets its contract.
 use Rattle.params.specs.Later.{timing}
 use Rattle.params.proofs.time.factor.Statement.{statement}
 use Rattle.params.proofs.time.factor.Tie as tie

@@ -1,3 +1,4 @@
+-- `params::time::resend_at` meets its contract.
 use Rattle.params.specs.Later.{timing}
 use Rattle.params.proofs.time.resend_at.Statement.{statement}
 use Rattle.params.proofs.time.resend_at.Tie as tie

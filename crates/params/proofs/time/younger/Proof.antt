@@ -1,3 +1,4 @@
+-- `params::time::younger` meets its contract.
 use Rattle.params.specs.Later.{timing}
 use Rattle.params.proofs.time.younger.Statement.{statement}
 use Rattle.params.proofs.time.younger.Tie as tie

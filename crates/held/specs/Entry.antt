@@ -1,0 +1,159 @@
+-- The bytes of a held peer: what they show is the peer, and one that was read at a place is the one that the region shows there.
+use mathlib.Core.Path.{_≡_, refl, sym, ap, _∙_, subst}
+use mathlib.Core.Bool.{Bool, true, false}
+use mathlib.Core.List.{List, [], _∷_, _++_, map, append-assoc, append-nil}
+use Prim.Native.Nat.{ℕ, _+_, _*_, _≤_, _<_}
+use native.Mathlib.Nat.{add-zero}
+use native.Mathlib.Omega.{arith}
+use lib.Dec.{eqb, lit≤}
+use lib.Seq.{length-take-le}
+use lib.ListN.{length, take, drop, getD, replicate, length-drop}
+use mir.Syntax.{w32, w64}
+use mir.Val.{Fits}
+use Rattle.rules.specs.Base.{one, Bytes}
+use Rattle.rules.specs.Field.{more, digits}
+use Rattle.laws.specs.Shift.{fit-at, shown}
+use Rattle.laws.specs.Splice.{length-digits, Wrote}
+use Rattle.laws.specs.Round.{more-digits}
+use Rattle.laws.specs.Cell.{num, flagOf, Optional, flag-shows, flag-code}
+use Rattle.laws.specs.Chunk.{chunks, joined}
+use Rattle.laws.specs.Fields.{cuts, cuts-at, cuts-joined, sum}
+use Rattle.node_addr.specs.View.{FitPair, viewPair}
+use Rattle.node_addr.specs.Alike.{byte-here}
+use Rattle.node_addr.specs.Place.{pairOf, pairCell, pair-cell-length, pair-cell-fit, pair-cell-shows}
+use Rattle.held.specs.declared.record.Held as held
+use Rattle.held.specs.View.{heldWs, heldFrom, heldOf, FitCells, FitHeldCell, FitHeld, heldCount, noHeld, nthHeld, viewRec, FitRec}
+
+-- ---- what is written
+abbrev pub heldFields : held.Held → List Bytes
+heldFields h = h .peer .0 ∷ digits 8 (h .link .0) ∷ digits 8 (h .epoch) ∷ digits 8 (h .installed) ∷ (one (h .heard) ∷ [])
+    ∷ (one (h .dated) ∷ []) ∷ digits 8 (h .last) ∷ (one (h .answered) ∷ []) ∷ h .setup .0 ∷ pairCell (h .current) ∷ []
+
+unfoldable pub heldBytes : held.Held → Bytes
+heldBytes h = joined (heldFields h)
+
+-- as the writers put it
+abbrev pub frontBytes : held.Held → Bytes
+frontBytes h = h .peer .0 ++ digits 8 (h .link .0) ++ digits 8 (h .epoch) ++ digits 8 (h .installed) ++ (one (h .heard) ∷ [])
+
+abbrev pub backBytes : held.Held → Bytes
+backBytes h = (one (h .dated) ∷ []) ++ digits 8 (h .last) ++ (one (h .answered) ∷ []) ++ h .setup .0 ++ pairCell (h .current)
+
+bytes-are : (h : held.Held) → frontBytes h ++ backBytes h ≡ heldBytes h
+unfolding heldBytes joined
+bytes-are h = simp (append-assoc, append-nil)
+
+pub put-held-is : (h : held.Held) {xs : Bytes} {at : ℕ} {ys : Bytes} {r : ℕ} → Wrote xs at 136 (frontBytes h ++ backBytes h) ys r → Wrote xs at 136 (heldBytes h) ys r
+put-held-is h {xs} {at} {ys} {r} w = subst (λ (b : Bytes). Wrote xs at 136 b ys r) (bytes-are h) w
+
+-- ---- what was written is read
+widths : (h : held.Held) → FitRec h → map length (heldFields h) ≡ heldWs
+widths h f = rw (
+  f .peer,
+  length-digits 8 (h .link .0),
+  length-digits 8 (h .epoch),
+  length-digits 8 (h .installed),
+  length-digits 8 (h .last),
+  f .setup,
+  pair-cell-length (f .current),
+)
+
+cuts-bytes : (h : held.Held) → FitRec h → cuts 0 0 heldWs (joined (heldFields h)) ≡ heldFields h
+cuts-bytes h f = ap (λ (ws : List ℕ). cuts 0 0 ws (joined (heldFields h))) (sym (widths h f)) ∙ cuts-joined (heldFields h)
+
+pub optional-number : (b : Bool) (v : ℕ) → (b ≡ false → v ≡ 0) → Optional 8 (one b ∷ []) (digits 8 v)
+unfolding digits
+optional-number true v h = record { flag = flag-code true; size = length-digits 8 v; blank = λ e. cc }
+optional-number false v h = record { flag = flag-code false; size = length-digits 8 v; blank = λ e. rw (h refl) }
+
+optional-bytes : (b : Bool) (n : ℕ) (s : Bytes) → length s ≡ n → (b ≡ false → s ≡ replicate n 0) → Optional n (one b ∷ []) s
+optional-bytes true n s e h = record { flag = flag-code true; size = e; blank = λ q. cc }
+optional-bytes false n s e h = record { flag = flag-code false; size = e; blank = λ q. h refl }
+
+fit-fields : (h : held.Held) → FitRec h → FitCells (heldFields h)
+fit-fields h f = record {
+  heard = flag-code (h .heard);
+  last = optional-number (h .dated) (h .last) (f .undated);
+  setup = optional-bytes (h .answered) 32 (h .setup .0) (f .setup) (f .unanswered);
+  current = pair-cell-fit (f .current);
+}
+
+pub fit-bytes : (h : held.Held) → FitRec h → FitHeldCell (heldBytes h)
+unfolding heldBytes
+fit-bytes h f = subst FitCells (sym (cuts-bytes h f)) (fit-fields h f)
+
+-- each number is one of its type
+pub record Wide (h : held.Held) : Type 0 where
+  pub link : Fits w64 (h .link .0)
+  pub epoch : Fits w64 (h .epoch)
+  pub installed : Fits w64 (h .installed)
+  pub last : Fits w64 (h .last)
+  pub transport : Fits w32 (h .current .transport .0)
+
+pub held-bytes : (h : held.Held) → FitRec h → Wide h → heldOf (heldBytes h) ≡ viewRec h
+unfolding heldBytes
+held-bytes h f b =
+    ap heldFrom (cuts-bytes h f)
+    ∙ rw (
+      more-digits 8 (h .link .0) (b .link .fits),
+      more-digits 8 (h .epoch) (b .epoch .fits),
+      more-digits 8 (h .installed) (b .installed .fits),
+      flag-shows (h .heard),
+      flag-shows (h .dated),
+      more-digits 8 (h .last) (b .last .fits),
+      flag-shows (h .answered),
+      pair-cell-shows (f .current) (b .transport),
+    )
+
+-- ---- a flag, where it stands
+pub flag-here : (s : Bytes) (at : ℕ) → eqb (getD s at 0) 1 ≡ flagOf (take 1 (drop at s))
+flag-here s at = ap (λ (x : ℕ). eqb x 1) (byte-here s at)
+
+-- ---- the cells of the i-th held peer, where they stand
+pub cells-here : (s : Bytes) (i : ℕ) → FitHeld s → i < heldCount s → cuts (i * 136) 0 heldWs s ≡ cuts 0 0 heldWs (getD (chunks 136 32 s) i [])
+unfolding sum
+cells-here s i f h = cuts-at 136 32 s i [] 0 heldWs (omega arith) (lit≤ tt) (omega arith)
+
+pub fit-here : (s : Bytes) (i : ℕ) → FitHeld s → i < heldCount s → FitCells (cuts (i * 136) 0 heldWs s)
+fit-here s i f h = subst FitCells (sym (cells-here s i f h)) (fit-at heldOf i [] (f .kept) h)
+
+pub held-here : (s : Bytes) (i : ℕ) → FitHeld s → i < heldCount s → heldFrom (cuts (i * 136) 0 heldWs s) ≡ nthHeld s i
+held-here s i f h = ap heldFrom (cells-here s i f h) ∙ shown heldOf i [] noHeld (f .kept) h
+
+-- h was read at a
+pub record Loaded (h : held.Held) (a : ℕ) (s : Bytes) : Type 0 where
+  pub peer : h .peer .0 ≡ take 16 (drop a s)
+  pub link : h .link .0 ≡ num (take 8 (drop (a + 16) s))
+  pub epoch : h .epoch ≡ num (take 8 (drop (a + 24) s))
+  pub installed : h .installed ≡ num (take 8 (drop (a + 32) s))
+  pub heard : h .heard ≡ flagOf (take 1 (drop (a + 40) s))
+  pub dated : h .dated ≡ flagOf (take 1 (drop (a + 41) s))
+  pub last : h .last ≡ num (take 8 (drop (a + 42) s))
+  pub answered : h .answered ≡ flagOf (take 1 (drop (a + 50) s))
+  pub setup : h .setup .0 ≡ take 32 (drop (a + 51) s)
+  pub fit : FitPair (h .current)
+  pub current : viewPair (h .current) ≡ pairOf (take 53 (drop (a + 83) s))
+
+-- where the flag is not set
+clear : {f s : Bytes} {w : ℕ} {b : Bool} → Optional w f s → b ≡ flagOf f → b ≡ false → s ≡ replicate w 0
+clear o e q = o .blank (sym e ∙ q)
+
+pub num-zeros : num (replicate 8 0) ≡ 0
+unfolding more
+num-zeros = refl
+
+pub held-loaded : (s : Bytes) (i : ℕ) (h : held.Held) → FitHeld s → i < heldCount s → Loaded h (i * 136) s → FitRec h × (viewRec h ≡ nthHeld s i)
+held-loaded s i h f l r =
+    let z : i * 136 + 0 ≡ i * 136 = add-zero (i * 136) in
+    let k = fit-here s i f l in
+    let v : viewRec h ≡ heldFrom (cuts (i * 136) 0 heldWs s) =
+    rw (r .peer, r .link, r .epoch, r .installed, r .heard, r .dated, r .last, r .answered, r .setup, r .current, z) in (
+      record {
+        peer = rw (r .peer) (length-take-le 16 (drop (i * 136) s) (rw length-drop (omega arith)));
+        setup = rw (r .setup) (k .setup .size);
+        current = r .fit;
+        undated = λ e. r .last ∙ ap num (clear (k .last) (r .dated) e) ∙ num-zeros;
+        unanswered = λ e. r .setup ∙ clear (k .setup) (r .answered) e;
+      },
+      v ∙ held-here s i f l,
+    )

@@ -1,0 +1,6 @@
+pub mod View
+pub mod Entry
+pub mod At
+pub mod Walk
+pub mod Change
+pub mod Same

@@ -1,0 +1,140 @@
+// The i-th held peer: single cells read where they stand, and the whole.
+use crate::cell::get_flag;
+use crate::record::Held;
+use memory::read::get_be;
+use node_addr::Digest;
+use node_addr::LinkNo;
+use node_addr::NodeAddr;
+use node_addr::Pair;
+use node_addr::place::load_digest;
+use node_addr::place::load_node;
+use node_addr::place::load_pair;
+use node_addr::place::pair_here;
+ghost use mathlib.Core.Path.{_≡_};
+ghost use Prim.Native.Nat.{_<_};
+ghost use Rattle.rules.specs.Base.{is};
+ghost use Rattle.rules.specs.Data.{samePair};
+ghost use Rattle.node_addr.specs.View.{viewPair, FitPair};
+ghost use Rattle.held.specs.View.{FitRec, FitHeld, viewRec, heldCount, nthHeld, lastHeard, setupOf};
+
+pub fn peer_at(s: &[u8], i: usize) -> NodeAddr
+    requires { ⌜ FitHeld (now s) ⌝ }
+    requires { ⌜ i < heldCount (now s) ⌝ }
+    ensures { λ r. ⌜ r .0 ≡ nthHeld (now (s .entry)) i .peer ⌝ }
+{
+    load_node(s, i * 136)
+}
+
+pub fn link_at(s: &[u8], i: usize) -> LinkNo
+    requires { ⌜ FitHeld (now s) ⌝ }
+    requires { ⌜ i < heldCount (now s) ⌝ }
+    ensures { λ r. ⌜ r .0 ≡ nthHeld (now (s .entry)) i .link ⌝ }
+{
+    let n = get_be(s, i * 136 + 16, 8);
+    LinkNo(n)
+}
+
+pub fn epoch_at(s: &[u8], i: usize) -> u64
+    requires { ⌜ FitHeld (now s) ⌝ }
+    requires { ⌜ i < heldCount (now s) ⌝ }
+    ensures { λ r. ⌜ r ≡ nthHeld (now (s .entry)) i .epoch ⌝ }
+{
+    get_be(s, i * 136 + 24, 8)
+}
+
+pub fn installed_at(s: &[u8], i: usize) -> u64
+    requires { ⌜ FitHeld (now s) ⌝ }
+    requires { ⌜ i < heldCount (now s) ⌝ }
+    ensures { λ r. ⌜ r ≡ nthHeld (now (s .entry)) i .installed ⌝ }
+{
+    get_be(s, i * 136 + 32, 8)
+}
+
+pub fn heard_at(s: &[u8], i: usize) -> bool
+    requires { ⌜ FitHeld (now s) ⌝ }
+    requires { ⌜ i < heldCount (now s) ⌝ }
+    ensures { λ r. ⌜ r ≡ nthHeld (now (s .entry)) i .heard ⌝ }
+{
+    get_flag(s, i * 136 + 40)
+}
+
+// Whether a frame of its session has been heard.
+pub fn dated_at(s: &[u8], i: usize) -> bool
+    requires { ⌜ FitHeld (now s) ⌝ }
+    requires { ⌜ i < heldCount (now s) ⌝ }
+    ensures { λ r. ⌜ r ≡ is (nthHeld (now (s .entry)) i .last) ⌝ }
+{
+    get_flag(s, i * 136 + 41)
+}
+
+// When the last frame was heard; 0 if none was.
+pub fn last_at(s: &[u8], i: usize) -> u64
+    requires { ⌜ FitHeld (now s) ⌝ }
+    requires { ⌜ i < heldCount (now s) ⌝ }
+    ensures { λ r. ⌜ r ≡ lastHeard (nthHeld (now (s .entry)) i) ⌝ }
+{
+    get_be(s, i * 136 + 42, 8)
+}
+
+// Whether an answer of this node installed it.
+pub fn answered_at(s: &[u8], i: usize) -> bool
+    requires { ⌜ FitHeld (now s) ⌝ }
+    requires { ⌜ i < heldCount (now s) ⌝ }
+    ensures { λ r. ⌜ r ≡ is (nthHeld (now (s .entry)) i .setup) ⌝ }
+{
+    get_flag(s, i * 136 + 50)
+}
+
+// The digest of the msg1 that was answered; zeros if none was.
+pub fn setup_at(s: &[u8], i: usize) -> Digest
+    requires { ⌜ FitHeld (now s) ⌝ }
+    requires { ⌜ i < heldCount (now s) ⌝ }
+    ensures { λ r. ⌜ r .0 ≡ setupOf (nthHeld (now (s .entry)) i) ⌝ }
+{
+    load_digest(s, i * 136 + 51)
+}
+
+pub fn current_at(s: &[u8], i: usize) -> Pair
+    requires { ⌜ FitHeld (now s) ⌝ }
+    requires { ⌜ i < heldCount (now s) ⌝ }
+    ensures { λ r. ⌜ FitPair r ⌝ }
+    ensures { λ r. ⌜ viewPair r ≡ nthHeld (now (s .entry)) i .current ⌝ }
+{
+    load_pair(s, i * 136 + 83)
+}
+
+// Whether the current pair is p.
+pub fn current_is(s: &[u8], i: usize, p: Pair) -> bool
+    requires { ⌜ FitHeld (now s) ⌝ }
+    requires { ⌜ i < heldCount (now s) ⌝ }
+    requires { ⌜ FitPair p ⌝ }
+    ensures { λ r. ⌜ r ≡ samePair (viewPair p) (nthHeld (now (s .entry)) i .current) ⌝ }
+{
+    pair_here(s, i * 136 + 83, p)
+}
+
+// The i-th held peer.
+pub fn get_held(s: &[u8], i: usize) -> Held
+    requires { ⌜ FitHeld (now s) ⌝ }
+    requires { ⌜ i < heldCount (now s) ⌝ }
+    ensures { λ r. ⌜ FitRec r ⌝ }
+    ensures { λ r. ⌜ viewRec r ≡ nthHeld (now (s .entry)) i ⌝ }
+{
+    let a = i * 136;
+    let peer = load_node(s, a);
+    let link = get_be(s, a + 16, 8);
+    let setup = load_digest(s, a + 51);
+    let current = load_pair(s, a + 83);
+    Held {
+        peer: peer,
+        link: LinkNo(link),
+        epoch: get_be(s, a + 24, 8),
+        installed: get_be(s, a + 32, 8),
+        heard: get_flag(s, a + 40),
+        dated: get_flag(s, a + 41),
+        last: get_be(s, a + 42, 8),
+        answered: get_flag(s, a + 50),
+        setup: setup,
+        current: current,
+    }
+}

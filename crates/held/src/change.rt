@@ -1,0 +1,50 @@
+// Parts of the i-th held peer, written in place.
+use crate::at::current_is;
+use crate::cell::put_flag;
+use memory::write::put_be;
+use memory::write::put_byte;
+use node_addr::LinkNo;
+use node_addr::Pair;
+use node_addr::place::put_pair;
+ghost use Prim.Native.Nat.{_<_};
+ghost use Rattle.node_addr.specs.View.{viewPair, FitPair};
+ghost use Rattle.held.specs.View.{FitHeld, heldCount};
+ghost use Rattle.held.specs.Change.{Changed, withLink, withHeard, lastAt, withCurrent};
+
+pub fn set_link(s: &mut [u8], i: usize, link: LinkNo)
+    requires { ⌜ FitHeld (now s) ⌝ }
+    requires { ⌜ i < heldCount (now s) ⌝ }
+    ensures { λ r. ⌜ Changed (withLink (link .0)) i (now (s .entry)) (now (s .exit)) ⌝ }
+{
+    put_be(s, i * 136 + 16, link.0, 8);
+}
+
+pub fn set_heard(s: &mut [u8], i: usize, heard: bool)
+    requires { ⌜ FitHeld (now s) ⌝ }
+    requires { ⌜ i < heldCount (now s) ⌝ }
+    ensures { λ r. ⌜ Changed (withHeard heard) i (now (s .entry)) (now (s .exit)) ⌝ }
+{
+    put_flag(s, i * 136 + 40, heard);
+}
+
+pub fn set_last(s: &mut [u8], i: usize, clock: u64)
+    requires { ⌜ FitHeld (now s) ⌝ }
+    requires { ⌜ i < heldCount (now s) ⌝ }
+    ensures { λ r. ⌜ Changed (lastAt clock) i (now (s .entry)) (now (s .exit)) ⌝ }
+{
+    let a = put_byte(s, i * 136 + 41, 1);
+    put_be(s, a, clock, 8);
+}
+
+// The pair is written only if it differs.
+pub fn set_current(s: &mut [u8], i: usize, p: Pair)
+    requires { ⌜ FitHeld (now s) ⌝ }
+    requires { ⌜ i < heldCount (now s) ⌝ }
+    requires { ⌜ FitPair p ⌝ }
+    ensures { λ r. ⌜ Changed (withCurrent (viewPair p)) i (now (s .entry)) (now (s .exit)) ⌝ }
+{
+    if current_is(s, i, p) {
+        return;
+    }
+    put_pair(s, i * 136 + 83, p);
+}

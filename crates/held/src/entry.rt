@@ -1,0 +1,47 @@
+// The bytes of a held peer, written at a place.
+use crate::cell::put_flag;
+use crate::record::Held;
+use memory::write::put_be;
+use node_addr::place::put_digest;
+use node_addr::place::put_node;
+use node_addr::place::put_pair;
+ghost use Prim.Native.Nat.{_+_, _≤_};
+ghost use lib.ListN.{length};
+ghost use Rattle.laws.specs.Splice.{Wrote};
+ghost use Rattle.held.specs.View.{FitRec};
+ghost use Rattle.held.specs.Entry.{heldBytes, frontBytes, backBytes};
+
+fn put_front(s: &mut [u8], at: usize, h: Held) -> usize
+    requires { ⌜ at + 41 ≤ length (now s) ⌝ }
+    ensures { λ r. ⌜ Wrote (now (s .entry)) at 41 (frontBytes h) (now (s .exit)) r ⌝ }
+{
+    let peer = h.peer;
+    let a = put_node(s, at, peer);
+    let b = put_be(s, a, h.link.0, 8);
+    let c = put_be(s, b, h.epoch, 8);
+    let d = put_be(s, c, h.installed, 8);
+    put_flag(s, d, h.heard)
+}
+
+fn put_back(s: &mut [u8], at: usize, h: Held) -> usize
+    requires { ⌜ FitRec h ⌝ }
+    requires { ⌜ at + 95 ≤ length (now s) ⌝ }
+    ensures { λ r. ⌜ Wrote (now (s .entry)) at 95 (backBytes h) (now (s .exit)) r ⌝ }
+{
+    let setup = h.setup;
+    let current = h.current;
+    let a = put_flag(s, at, h.dated);
+    let b = put_be(s, a, h.last, 8);
+    let c = put_flag(s, b, h.answered);
+    let d = put_digest(s, c, setup);
+    put_pair(s, d, current)
+}
+
+pub fn put_held(s: &mut [u8], at: usize, h: Held) -> usize
+    requires { ⌜ FitRec h ⌝ }
+    requires { ⌜ at + 136 ≤ length (now s) ⌝ }
+    ensures { λ r. ⌜ Wrote (now (s .entry)) at 136 (heldBytes h) (now (s .exit)) r ⌝ }
+{
+    let a = put_front(s, at, h);
+    put_back(s, a, h)
+}

@@ -1,0 +1,19 @@
+// A held peer by value.
+use node_addr::Digest;
+use node_addr::LinkNo;
+use node_addr::NodeAddr;
+use node_addr::Pair;
+
+// `last` is 0 unless `dated`, `setup` zeros unless `answered`.
+pub struct Held {
+    pub peer: NodeAddr,
+    pub link: LinkNo,
+    pub epoch: u64,
+    pub installed: u64,
+    pub heard: bool,
+    pub dated: bool,
+    pub last: u64,
+    pub answered: bool,
+    pub setup: Digest,
+    pub current: Pair,
+}

@@ -1,0 +1,28 @@
+// Runs of 32 and 48 bytes compared where they stand, 16 at a time, which the compiler makes comparisons of words.
+use memory::compare::same_run;
+ghost use mathlib.Core.Path.{_≡_};
+ghost use Prim.Native.Nat.{_+_, _≤_};
+ghost use lib.ListN.{length, take, drop};
+ghost use Rattle.rules.specs.Base.{same};
+
+pub fn same_32(s: &[u8], at: usize, t: &[u8], from: usize) -> bool
+    requires { ⌜ at + 32 ≤ length (now s) ⌝ }
+    requires { ⌜ from + 32 ≤ length (now t) ⌝ }
+    ensures { λ r. ⌜ r ≡ same (take 32 (drop at (now (s .entry)))) (take 32 (drop from (now (t .entry)))) ⌝ }
+{
+    if !same_run(s, at, t, from, 16) {
+        return false;
+    }
+    same_run(s, at + 16, t, from + 16, 16)
+}
+
+pub fn same_48(s: &[u8], at: usize, t: &[u8], from: usize) -> bool
+    requires { ⌜ at + 48 ≤ length (now s) ⌝ }
+    requires { ⌜ from + 48 ≤ length (now t) ⌝ }
+    ensures { λ r. ⌜ r ≡ same (take 48 (drop at (now (s .entry)))) (take 48 (drop from (now (t .entry)))) ⌝ }
+{
+    if !same_32(s, at, t, from) {
+        return false;
+    }
+    same_run(s, at + 32, t, from + 32, 16)
+}
