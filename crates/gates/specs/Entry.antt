@@ -1,17 +1,16 @@
 -- The bytes of a memory: what they show is the memory, and a memory that was read at a place is the one that the region shows there.
 use mathlib.Core.Path.{_≡_, refl, sym, ap, _∙_, subst}
 use mathlib.Core.Bool.{Bool, true, false}
-use mathlib.Core.Option.{Option, none, some}
 use mathlib.Core.List.{List, [], _∷_, _++_, map, append-assoc, append-nil}
 use Prim.Native.Nat.{ℕ, _+_, _*_, _≤_, _<_}
 use native.Mathlib.Nat.{add-zero}
 use native.Mathlib.Omega.{arith}
-use lib.Dec.{eqb, lit≤, lit<}
+use lib.Dec.{eqb, lit≤}
 use lib.Seq.{length-take-le, take-at, drop-at, take-all, getD-take, getD-drop}
 use lib.ListN.{length, take, drop, getD, replicate, length-drop, length-append}
 use mir.Syntax.{w64}
 use mir.Val.{Fits}
-use Rattle.rules.specs.Base.{if_then_else_, one, Bytes}
+use Rattle.rules.specs.Base.{one, Bytes}
 use Rattle.rules.specs.Field.{more, digits}
 use Rattle.rules.specs.Data as rule
 use Rattle.laws.specs.Splice.{length-digits, Wrote}
@@ -29,7 +28,7 @@ use Rattle.memories.specs.declared.Silence.{Silence}
 use Rattle.memories.specs.declared.Memory.{Memory}
 use Rattle.memories.specs.View.{optional, viewReplay, viewReplays, viewDigest, viewDigests, viewSilence, viewMemory, blankReplay, blankSilence, FitReplay, FitDigest, FitReplays, FitDigests, WideSilence, FitSilence, FitMemory}
 use Rattle.gates.specs.Rows.{AnyBytes, part-at, cuts-part, row-size, row-store, row-shows}
-use Rattle.gates.specs.View.{cell, replayOf, digestOf, silenceWs, silenceFrom, silenceOf, SilenceCells, FitSilenceCell, entryWs, entryFrom, entryOf, FitCells, FitEntry, viewGates, FitGates, gateCount, noMemory, memoryAt}
+use Rattle.gates.specs.View.{replayOf, digestOf, silenceWs, silenceFrom, silenceOf, SilenceCells, FitSilenceCell, entryWs, entryFrom, entryOf, FitCells, FitEntry, FitGates, gateCount, noMemory, memoryAt}
 
 pub flag-here : (s : Bytes) (at : ℕ) → eqb (getD s at 0) 1 ≡ flagOf (take 1 (drop at s))
 flag-here s at = ap (λ (b : ℕ). eqb b 1) (byte-here s at)

@@ -1,14 +1,14 @@
 -- A memory found, stored and cleared among memories in the order of their peers.
 use mathlib.Core.Path.{_≡_, refl, sym, ap, _∙_, subst}
-use mathlib.Core.Bool.{Bool, true, false, not, _&&_, _||_}
+use mathlib.Core.Bool.{Bool, true, false, not, _&&_}
 use mathlib.Core.Option.{Option, none, some}
-use mathlib.Core.List.{List, [], _∷_, _++_}
+use mathlib.Core.List.{List, [], _∷_}
 use Prim.Native.Nat.{ℕ, zero, suc, _≤_, _<_}
 use native.Mathlib.Omega.{arith}
 use borrow.Author.Tests.{eqb-true, eqb-false, eq-eqb, ne-eqb, ltb-true, le-ltb}
 use lib.Dec.{eqb, ltb}
 use lib.ListN.{length, getD, set}
-use Rattle.rules.specs.Base.{if_then_else_, option, is, empty, Bytes, All, same, find, without}
+use Rattle.rules.specs.Base.{if_then_else_, option, is, empty, Bytes, All, same, without}
 use Rattle.rules.specs.Std.{before, Ascending}
 use Rattle.rules.specs.Std as std
 use Rattle.rules.specs.Data.{Replay, Silence, Memory}

@@ -1,9 +1,8 @@
 -- An entry put over another, and a new one put between others.
 use mathlib.Core.Path.{_≡_, sym, _∙_}
-use mathlib.Core.List.{List, []}
-use Prim.Native.Nat.{ℕ, _+_, _*_, _≤_, _<_}
+use Prim.Native.Nat.{ℕ, _*_, _<_}
 use native.Mathlib.Omega.{arith}
-use lib.ListN.{length, getD, set}
+use lib.ListN.{length, set}
 use mir.Syntax.{w64}
 use mir.Val.{Fits}
 use Rattle.rules.specs.Base.{Bytes}
@@ -13,7 +12,7 @@ use Rattle.laws.specs.Shift.{replaced}
 use Rattle.laws.specs.Scan.{scan}
 use Rattle.laws.specs.Splice.{splice, length-splice, Wrote}
 use Rattle.laws.specs.Part.{getD-past}
-use Rattle.laws.specs.Chunk.{chunks, chunks-whole}
+use Rattle.laws.specs.Chunk.{chunks-whole}
 use Rattle.laws.specs.Store.{gapped, inserted-is}
 use Rattle.memories.specs.declared.Memory.{Memory}
 use Rattle.memories.specs.View.{viewMemory, FitMemory}

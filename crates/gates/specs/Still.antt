@@ -1,6 +1,6 @@
 -- The three bytes that tell whether a memory has a stamp and nothing else.
 use mathlib.Core.Path.{_≡_, refl, sym, ap, _∙_}
-use mathlib.Core.Bool.{Bool, true, false, not, _&&_}
+use mathlib.Core.Bool.{Bool, true, false, not}
 use mathlib.Core.Option.{none, some}
 use mathlib.Core.List.{List, [], _∷_, map}
 use Prim.Native.Nat.{ℕ, zero, suc, _+_, _*_, _<_}
@@ -10,7 +10,6 @@ use Rattle.rules.specs.Base.{if_then_else_, Bytes, is, empty}
 use Rattle.rules.specs.Data.{Silence}
 use Rattle.laws.specs.Cell.{flagOf}
 use Rattle.laws.specs.Chunk.{chunks, length-chunks}
-use Rattle.laws.specs.Store.{entries}
 use Rattle.gates.specs.View.{replayOf, silenceOf, FitGates, gateCount, memoryAt}
 use Rattle.gates.specs.Entry.{memory-here, row-count}
 use Rattle.gates.specs.Order.{still}

@@ -1,7 +1,7 @@
 // Flags at a place.
 ghost use mathlib.Core.Path.{_≡_};
-ghost use mathlib.Core.List.{List, [], _∷_};
-ghost use Prim.Native.Nat.{ℕ, _<_};
+ghost use mathlib.Core.List.{[], _∷_};
+ghost use Prim.Native.Nat.{_<_};
 ghost use lib.ListN.{length, take, drop};
 ghost use Rattle.rules.specs.Base.{one};
 ghost use Rattle.laws.specs.Splice.{Wrote};

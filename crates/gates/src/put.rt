@@ -9,7 +9,6 @@ use memory::write::put_be;
 use memory::write::put_byte;
 use node_addr::place::put_digest;
 use node_addr::place::put_node;
-ghost use mathlib.Core.Path.{_≡_};
 ghost use Prim.Native.Nat.{_+_, _≤_};
 ghost use lib.ListN.{length};
 ghost use Rattle.laws.specs.Splice.{Wrote};

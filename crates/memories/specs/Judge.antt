@@ -1,19 +1,19 @@
 -- What the tests of the code say of the rules that judge.
-use mathlib.Core.Path.{_≡_, refl, sym, ap, _∙_}
-use mathlib.Core.Bool.{Bool, true, false, not, _&&_, _||_}
+use mathlib.Core.Path.{_≡_, refl, ap}
+use mathlib.Core.Bool.{Bool, true, false, not}
 use mathlib.Core.Option.{Option, none, some}
 use mathlib.Core.List.{List, [], _∷_}
 use Prim.Native.Nat.{ℕ, _≤_, _<_}
 use native.Mathlib.Omega.{arith}
 use borrow.Author.Tests.{lt-ltb, le-ltb, not-true, not-false}
-use lib.Dec.{eqb, leb, ltb}
+use lib.Dec.{eqb, leb}
 use lib.ListN.{length}
-use Rattle.rules.specs.Base.{if_then_else_, option, is, empty, Bytes, orElse}
+use Rattle.rules.specs.Base.{if_then_else_, is, empty, Bytes}
 use Rattle.rules.specs.Time.{Params}
 use Rattle.rules.specs.Data as rule
-use Rattle.rules.specs.Gates.{differ, silencing, remembers, Ask, recentReplays, seenIn, replayed, young, dampened, judge, gate, asksSilence, gated}
+use Rattle.rules.specs.Gates.{silencing, remembers, recentReplays, seenIn, replayed, young, judge, gate}
 use Rattle.memories.specs.declared.Memory.{Memory}
-use Rattle.memories.specs.View.{optional, viewReplays, viewDigests, viewSilence, viewMemory, FitMemory, viewReplay}
+use Rattle.memories.specs.View.{optional, viewReplays, viewSilence, viewMemory, FitMemory, viewReplay}
 use Rattle.memories.specs.Loops.{shown-length}
 
 -- ---- remembers

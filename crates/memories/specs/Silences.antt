@@ -1,23 +1,22 @@
 -- An ending counted in a silence, and what the tests of the code say of the rules that count it.
 use mathlib.Core.Path.{_≡_, refl, sym, ap, _∙_}
-use mathlib.Core.Bool.{Bool, true, false, not, _||_}
+use mathlib.Core.Bool.{Bool, true, false, not}
 use mathlib.Core.Option.{Option, none, some}
 use mathlib.Core.List.{List, []}
 use Prim.Native.Nat.{ℕ, _-_, _≤_, _<_}
 use native.Mathlib.Omega.{arith}
 use borrow.Author.Tests.{lt-ltb, le-ltb, eq-eqb, ne-eqb, not-true, not-false}
 use lib.Dec.{ltb}
-use lib.ListN.{length}
-use Rattle.rules.specs.Base.{if_then_else_, option, any, same, orElse, Bytes}
+use Rattle.rules.specs.Base.{if_then_else_, option, any, same, Bytes}
 use Rattle.rules.specs.Std.{Duration, fromNanos, saturatingAdd}
 use Rattle.rules.specs.Time.{Params, deadline, backoff}
 use Rattle.rules.specs.Data as rule
-use Rattle.rules.specs.Gates.{differ, expired, counting, countedWith, silenced, ended, prune, promoted, limited, noted}
+use Rattle.rules.specs.Gates.{expired, counting, countedWith, silenced, ended, prune, promoted, limited, noted}
 use Rattle.params.specs.declared.Params as params
 use Rattle.params.specs.View.{viewParams}
 use Rattle.memories.specs.declared.Silence.{Silence}
 use Rattle.memories.specs.declared.Memory.{Memory}
-use Rattle.memories.specs.View.{optional, viewDigest, viewDigests, viewSilence, viewMemory, FitSilence, FitMemory, Within, spanned}
+use Rattle.memories.specs.View.{optional, viewDigest, viewDigests, viewSilence, viewMemory, FitMemory, Within, spanned}
 use Rattle.memories.specs.Loops.{shown-length}
 
 abbrev pub newSilence : ℕ → ℕ → rule.Silence

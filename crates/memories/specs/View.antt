@@ -1,8 +1,8 @@
 -- What a memory by value shows, when it is well formed, its blank values, and the meaning of each case.
 use mathlib.Core.Path.{_≡_, refl}
-use mathlib.Core.Bool.{Bool, true, false}
+use mathlib.Core.Bool.{Bool, false}
 use mathlib.Core.Option.{Option, none, some}
-use mathlib.Core.List.{List, [], _∷_, map}
+use mathlib.Core.List.{List, [], map}
 use Prim.Native.Nat.{ℕ, _≤_}
 use lib.Dec.{lit≤, lit<}
 use lib.ListN.{length, take, replicate}

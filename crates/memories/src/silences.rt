@@ -12,7 +12,7 @@ ghost use mathlib.Core.Path.{_≡_};
 ghost use mathlib.Core.Bool.{false};
 ghost use mathlib.Core.Option.{some};
 ghost use Prim.Native.Nat.{_≤_};
-ghost use Rattle.rules.specs.Base.{if_then_else_, option, any, same};
+ghost use Rattle.rules.specs.Base.{option, any, same};
 ghost use Rattle.rules.specs.Std.{saturatingAdd};
 ghost use Rattle.rules.specs.Gates as rule;
 ghost use Rattle.params.specs.View.{viewParams};

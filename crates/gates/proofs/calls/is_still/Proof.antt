@@ -1,7 +1,6 @@
 use mathlib.Core.Path.{sym, ap, _∙_}
 use mathlib.Core.Bool.{not}
 use borrow.Author.Needs.{needs}
-use native.Mathlib.Omega.{arith}
 use borrow.Author.Tests.{not-true, not-false}
 use Rattle.gates.specs.Still.{still-unstamped, still-replayed, still-silent}
 use Rattle.gates.proofs.calls.is_still.Statement.{statement}

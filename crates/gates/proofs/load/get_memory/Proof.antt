@@ -1,5 +1,4 @@
 use borrow.Author.Needs.{needs}
-use native.Mathlib.Omega.{arith}
 use Rattle.gates.specs.Entry.{memory-there, memory-loaded}
 use Rattle.gates.proofs.load.get_memory.Statement.{statement}
 use Rattle.gates.proofs.load.get_memory.Tie as tie

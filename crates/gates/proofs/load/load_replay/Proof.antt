@@ -2,8 +2,6 @@ use mathlib.Core.Path.{ap₂}
 use Prim.Native.Nat.{ℕ}
 use mathlib.Core.List.{List}
 use borrow.Author.Needs.{needs}
-use Rattle.memories.specs.declared.Replay.{Replay}
-use Rattle.memories.specs.View.{FitReplay}
 use Rattle.gates.proofs.load.load_replay.Statement.{statement}
 use Rattle.gates.proofs.load.load_replay.Tie as tie
 

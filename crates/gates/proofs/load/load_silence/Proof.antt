@@ -1,5 +1,4 @@
 use borrow.Author.Needs.{needs}
-use native.Mathlib.Omega.{arith}
 use Rattle.gates.specs.Entry.{counted-cell, silence-loaded}
 use Rattle.gates.proofs.load.load_silence.Statement.{statement}
 use Rattle.gates.proofs.load.load_silence.Tie as tie

@@ -1,5 +1,4 @@
 use borrow.Author.Needs.{needs}
-use native.Mathlib.Omega.{arith}
 use Rattle.laws.specs.Store.{chunking}
 use Rattle.gates.specs.Put.{put-new}
 use Rattle.gates.proofs.map.insert_memory.Statement.{statement}

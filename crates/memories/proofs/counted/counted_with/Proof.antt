@@ -1,7 +1,6 @@
-use mathlib.Core.Path.{sym, ap, _∙_}
+use mathlib.Core.Path.{_∙_}
 use borrow.Author.Needs.{needs}
 use borrow.Author.Tests.{eq-eqb, ne-eqb}
-use native.Mathlib.Omega.{arith}
 use Rattle.memories.specs.View.{viewDigest}
 use Rattle.memories.specs.Loops.{shown-length}
 use Rattle.memories.proofs.counted.counted_with.Statement.{statement}

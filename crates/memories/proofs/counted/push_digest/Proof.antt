@@ -1,6 +1,6 @@
 use borrow.Author.Needs.{needs}
 use Rattle.laws.specs.Shift.{pushed}
-use Rattle.memories.specs.View.{viewDigest, FitDigest}
+use Rattle.memories.specs.View.{viewDigest}
 use Rattle.memories.proofs.counted.push_digest.Statement.{statement}
 use Rattle.memories.proofs.counted.push_digest.Tie as tie
 

@@ -1,4 +1,3 @@
-use mathlib.Core.Path.{refl}
 use mathlib.Core.Option.{some}
 use borrow.Author.Needs.{needs}
 use native.Mathlib.Omega.{arith}

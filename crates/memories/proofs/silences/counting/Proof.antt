@@ -1,6 +1,5 @@
-use mathlib.Core.Path.{refl, sym, _∙_}
+use mathlib.Core.Path.{sym, _∙_}
 use borrow.Author.Needs.{needs}
-use borrow.Author.Tests.{not-false}
 use native.Mathlib.Omega.{arith}
 use Rattle.params.specs.View.{viewParams}
 use Rattle.memories.specs.Silences.{count-quiet, count-expired, count-unknown, count-other, count-same}
