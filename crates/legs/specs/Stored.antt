@@ -1,0 +1,175 @@
+-- The search for a stored msg2: over the links in ascending order, over the addresses of each, for a leg that yields one.
+use mathlib.Core.Path.{_≡_, refl, sym, ap, _∙_}
+use mathlib.Core.Bool.{Bool, true, false, not, _&&_, _||_}
+use mathlib.Core.Option.{Option, none, some}
+use mathlib.Core.List.{List, [], _∷_, map}
+use Prim.Native.Nat.{ℕ, _+_, _≤_, _<_}
+use native.Mathlib.Numerals.{add-one}
+use native.Mathlib.Omega.{arith}
+use borrow.Author.Tests.{eqb-true}
+use lib.Seq.{drop-cons}
+use lib.ListN.{length, drop, getD, drop-of-length-le}
+use Rattle.rules.specs.Base.{if_then_else_, option, is, orElse, Bytes, same, find, any}
+use Rattle.rules.specs.Data.{Pair, samePair, PathRec, LinkRec, Answered, Leg}
+use Rattle.rules.specs.Links.{provenAt, indexed}
+use Rattle.rules.specs.Legs.{onLink, answered, storedMsg2}
+use Rattle.rules.specs.Settle.{Stored, storedOn, storedIn}
+use Rattle.laws.specs.Scan.{scan}
+use Rattle.laws.specs.Place.{find-at, find-nowhere, place-passes, place-within}
+use Rattle.node_addr.specs.declared.Found.{Found}
+use Rattle.node_addr.specs.declared.Found.the-variants as foundv
+use Rattle.legs.specs.View.{viewLegs, FitLegs, legCount, noLeg, legAt}
+use Rattle.legs.specs.At.{orBlank, noAnswer, answerOf}
+use Rattle.legs.specs.Walk.{count-is}
+
+-- ---- what the place of a leg says
+abbrev pub storedFrom : Found → Bytes → Option Stored
+storedFrom (foundv.At i) s = some (record { link = legAt s i .link; msg2 = answerOf (legAt s i) .msg2 })
+storedFrom foundv.Nothing s = none
+
+abbrev pub Within : Found → ℕ → Type 0
+Within (foundv.At i) n = i < n
+Within foundv.Nothing n = Unit {0}
+
+-- the answer r, a place of a leg in s, says o
+pub record Tells (r : Found) (s : Bytes) (o : Option Stored) : Type 0 where
+  pub within : Within r (legCount s)
+  pub is : o ≡ storedFrom r s
+
+pub tells-no : {s : Bytes} {o : Option Stored} → o ≡ none → Tells foundv.Nothing s o
+tells-no e = record { within = tt; is = e }
+
+pub tells-none : {r : Found} {s : Bytes} {o : Option Stored} → Tells r s o → r ≡ foundv.Nothing → o ≡ none
+tells-none {s = s} t e = t .is ∙ ap (λ (r : Found). storedFrom r s) e
+
+-- what yields o yields p
+pub tells-on : {r : Found} {s : Bytes} {o p : Option Stored} {i : ℕ} → Tells r s o → r ≡ foundv.At i → ((z : Stored) → o ≡ some z → p ≡ some z) → Tells (foundv.At i) s p
+tells-on {s = s} {i = i} t e f = record {
+  within = rw e at (t .within);
+  is = f (record { link = legAt s i .link; msg2 = answerOf (legAt s i) .msg2 }) (t .is ∙ ap (λ (r : Found). storedFrom r s) e);
+}
+
+-- ---- what the leg on link n yields
+abbrev pub yieldOf : Bytes → List Leg → ℕ → Option Stored
+yieldOf bs s n = option (find (onLink n) s) none λ g. option (storedMsg2 bs g) none λ m. some (record { link = n; msg2 = m })
+
+stored-is : (bs : Bytes) (g : Leg) → is (storedMsg2 bs g) ≡ true → storedMsg2 bs g ≡ some (answerOf g .msg2)
+unfolding storedMsg2
+stored-is bs g e = go (answered (g .kind)) e
+  where
+    pick : (x : Bool) (a : Answered) → is (if x then some (a .msg2) else none) ≡ true → (if x then some (a .msg2) else none) ≡ some (a .msg2)
+    pick true a e = refl
+    pick false a e = cc
+
+    go : (o : Option Answered) → is (option o none (λ a. if not (a .sent) || same bs (g .msg1) then some (a .msg2) else none)) ≡ true
+        → option o none (λ a. if not (a .sent) || same bs (g .msg1) then some (a .msg2) else none) ≡ some (orBlank noAnswer o .msg2)
+    go none e = cc
+    go (some a) e = pick (not (a .sent) || same bs (g .msg1)) a e
+
+stored-not : (bs : Bytes) (g : Leg) → is (storedMsg2 bs g) ≡ false → storedMsg2 bs g ≡ none
+stored-not bs g e = go (storedMsg2 bs g) e
+  where
+    go : (o : Option Bytes) → is o ≡ false → o ≡ none
+    go none e = refl
+    go (some a) e = cc
+
+module _ {s : Bytes} (f : FitLegs s) (bs : Bytes) (n : ℕ) where
+  pub yields-none : scan (onLink n) 0 (viewLegs s) ≡ none → Tells foundv.Nothing s (yieldOf bs (viewLegs s) n)
+  yields-none e = record { within = tt; is = rw (find-nowhere (onLink n) (viewLegs s) e) }
+
+  module _ {i : ℕ} (e : scan (onLink n) 0 (viewLegs s) ≡ some i) where
+    yield-at : yieldOf bs (viewLegs s) n ≡ option (storedMsg2 bs (legAt s i)) none λ m. some (record { link = n; msg2 = m })
+    yield-at = ap (λ (o : Option Leg). option o none λ g. option (storedMsg2 bs g) none λ m. some (record { link = n; msg2 = m })) (find-at (onLink n) (viewLegs s) i e noLeg)
+
+    pub found-within : i < legCount s
+    found-within = let h = place-within (onLink n) (viewLegs s) i e in omega (arith, count-is f)
+
+    pub yields-not : is (storedMsg2 bs (legAt s i)) ≡ false → Tells foundv.Nothing s (yieldOf bs (viewLegs s) n)
+    yields-not q = record { within = tt; is = yield-at ∙ rw (stored-not bs (legAt s i) q) }
+
+    pub yields-at : is (storedMsg2 bs (legAt s i)) ≡ true → Tells (foundv.At i) s (yieldOf bs (viewLegs s) n)
+    yields-at q =
+        let l : n ≡ legAt s i .link = eqb-true n (legAt s i .link) (place-passes (onLink n) (viewLegs s) i e noLeg) in
+        record {
+          within = found-within;
+          is = yield-at ∙ rw (stored-is bs (legAt s i) q) (ap (λ (k : ℕ). some (record { link = k; msg2 = answerOf (legAt s i) .msg2 })) l);
+        }
+
+-- ---- the addresses of a link, the setup first: whether the index has the link there
+abbrev pub reach : Pair → LinkRec → List Bool
+reach p r = (samePair p (r .setup) && not (r .released)) ∷ map (provenAt p) (r .paths)
+
+abbrev pub holds : Bool → Bool
+holds b = b
+
+any-map : (p : Pair) (s : List PathRec) → any holds (map (provenAt p) s) ≡ any (provenAt p) s
+any-map p [] = refl
+any-map p (w ∷ s) = ap (λ (b : Bool). provenAt p w || b) (any-map p s)
+
+stored-on : (p : Pair) (bs : Bytes) (s : List Leg) (r : LinkRec) → storedOn p bs s r ≡ (if any holds (reach p r) then yieldOf bs s (r .no) else none)
+unfolding storedOn indexed
+stored-on p bs s r = ap (λ (b : Bool). if (samePair p (r .setup) && not (r .released)) || b then yieldOf bs s (r .no) else none) (sym (any-map p (r .paths)))
+
+-- the inner loop stands at j: o, what the link yields, is y if the index has it at an address from there on
+pub record Reaching (o y : Option Stored) (bs : List Bool) (k j : ℕ) : Type 0 where
+  pub count : k ≡ length bs
+  pub within : j ≤ k
+  pub left : o ≡ (if any holds (drop j bs) then y else none)
+
+pub reaching-start : (p : Pair) (bs : Bytes) (s : List Leg) (r : LinkRec) {k : ℕ} → k ≡ length (reach p r) → Reaching (storedOn p bs s r) (yieldOf bs s (r .no)) (reach p r) k 0
+reaching-start p bs s r e = record { count = e; within = omega arith; left = stored-on p bs s r }
+
+module _ {o y : Option Stored} {bs : List Bool} {k j : ℕ} (a : Reaching o y bs k j) where
+  reach-here : j < k → o ≡ (if getD bs j false || any holds (drop (j + 1) bs) then y else none)
+  reach-here h =
+      a .left
+      ∙ ap (λ (l : List Bool). if any holds l then y else none) (drop-cons bs j false (omega arith) ∙ ap (λ (i : ℕ). getD bs j false ∷ drop i bs) (sym (add-one j)))
+
+  pub reaching-hit : {z : Stored} → j < k → (if getD bs j false then y else none) ≡ some z → o ≡ some z
+  reaching-hit {z} h e = reach-here h ∙ go (getD bs j false) e
+    where
+      go : (b : Bool) → (if b then y else none) ≡ some z → (if b || any holds (drop (j + 1) bs) then y else none) ≡ some z
+      go true e = e
+      go false e = cc
+
+  pub reaching-skip : j < k → (if getD bs j false then y else none) ≡ none → Reaching o y bs k (j + 1)
+  reaching-skip h e = record { count = a .count; within = omega arith; left = reach-here h ∙ go (getD bs j false) (any holds (drop (j + 1) bs)) e }
+    where
+      go : (b c : Bool) → (if b then y else none) ≡ none → (if b || c then y else none) ≡ (if c then y else none)
+      go true true e = refl
+      go true false e = e
+      go false c e = refl
+
+  pub reaching-end : k ≤ j → o ≡ none
+  reaching-end h = a .left ∙ ap (λ (l : List Bool). if any holds l then y else none) (drop-of-length-le bs {i = j} (omega arith))
+
+-- one address: reached, or not
+pub by-none : {b : Bool} {s : Bytes} (y : Option Stored) → b ≡ false → Tells foundv.Nothing s (if b then y else none)
+by-none y e = tells-no (rw e)
+
+pub by-some : {b : Bool} {s : Bytes} {r : Found} (bs : Bytes) (ls : List Leg) {k n : ℕ} → b ≡ true → k ≡ n → Tells r s (yieldOf bs ls k) → Tells r s (if b then yieldOf bs ls n else none)
+by-some bs ls e q t = rw (e, ← q) t
+
+-- ---- the outer loop stands at i: o is what the links from there on yield
+pub record Looking (o : Option Stored) (p : Pair) (bs : Bytes) (s : List Leg) (ls : List LinkRec) (n i : ℕ) : Type 0 where
+  pub count : n ≡ length ls
+  pub within : i ≤ n
+  pub left : o ≡ storedIn p bs s (drop i ls)
+
+pub looking-start : (p : Pair) (bs : Bytes) (s : List Leg) (ls : List LinkRec) {n : ℕ} → n ≡ length ls → Looking (storedIn p bs s ls) p bs s ls n 0
+looking-start p bs s ls e = record { count = e; within = omega arith; left = refl }
+
+module _ {o : Option Stored} {p : Pair} {bs : Bytes} {s : List Leg} {ls : List LinkRec} {n i : ℕ} (a : Looking o p bs s ls n i) where
+  look-here : (d : LinkRec) → i < n → o ≡ orElse (storedOn p bs s (getD ls i d)) (storedIn p bs s (drop (i + 1) ls))
+  unfolding storedIn
+  look-here d h = a .left ∙ ap (storedIn p bs s) (drop-cons ls i d (omega arith) ∙ ap (λ (k : ℕ). getD ls i d ∷ drop k ls) (sym (add-one i)))
+
+  pub looking-hit : (d : LinkRec) {z : Stored} → i < n → storedOn p bs s (getD ls i d) ≡ some z → o ≡ some z
+  looking-hit d h e = look-here d h ∙ rw e
+
+  pub looking-skip : (d : LinkRec) → i < n → storedOn p bs s (getD ls i d) ≡ none → Looking o p bs s ls n (i + 1)
+  looking-skip d h e = record { count = a .count; within = omega arith; left = look-here d h ∙ rw e }
+
+  pub looking-end : n ≤ i → o ≡ none
+  unfolding storedIn
+  looking-end h = a .left ∙ ap (storedIn p bs s) (drop-of-length-le ls {i = i} (omega arith))

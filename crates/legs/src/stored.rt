@@ -1,0 +1,131 @@
+// The search for a stored msg2: over the links in ascending order and the addresses of each, left at the first leg that yields one.
+use crate::at::stored_at;
+use crate::map::find_leg;
+use links::read::link_count;
+use links::read::no_at;
+use links::read::released_at;
+use links::read::setup_is;
+use memory::read::get_byte;
+use node_addr::Found;
+use node_addr::LinkNo;
+use node_addr::Message;
+use node_addr::Pair;
+use node_addr::place::pair_here;
+ghost use mathlib.Core.Path.{_≡_};
+ghost use mathlib.Core.Bool.{true, false};
+ghost use mathlib.Core.List.{[]};
+ghost use mathlib.Core.Option.{none};
+ghost use Prim.Native.Nat.{_+_, _*_, _<_};
+ghost use lib.ListN.{length, getD};
+ghost use Rattle.rules.specs.Base.{if_then_else_};
+ghost use Rattle.rules.specs.Links.{provenAt};
+ghost use Rattle.rules.specs.Settle.{storedIn};
+ghost use Rattle.laws.specs.Chunk.{chunks};
+ghost use Rattle.node_addr.specs.View.{FitMessage, viewMessage, FitPair, viewPair};
+ghost use Rattle.links.specs.View.{pathOf, FitPaths, pathCount, FitLinks, viewLinks, linkCount};
+ghost use Rattle.legs.specs.View.{FitLegs, viewLegs};
+ghost use Rattle.legs.specs.Stored.{Tells, yieldOf, reach};
+ghost use Rattle.legs.specs.Addresses.{linkAt};
+
+// The leg on a link, if it yields its msg2 for these bytes.
+pub fn yielding(s: &[u8], n: LinkNo, m: Message) -> Found
+    requires { ⌜ FitLegs (now s) ⌝ }
+    requires { ⌜ FitMessage m ⌝ }
+    ensures { λ r. ⌜ Tells r (now (s .entry)) (yieldOf (viewMessage m) (viewLegs (now (s .entry))) (n .0)) ⌝ }
+{
+    let Found::At(i) = find_leg(s, n) else {
+        return Found::Nothing;
+    };
+    if !stored_at(s, i, m) {
+        return Found::Nothing;
+    }
+    Found::At(i)
+}
+
+// Whether the j-th of a link's paths is at the pair and counts.
+fn proven_path(s: &[u8], j: usize, p: Pair) -> bool
+    requires { ⌜ FitPaths (now s) ⌝ }
+    requires { ⌜ j < pathCount (now s) ⌝ }
+    requires { ⌜ FitPair p ⌝ }
+    ensures { λ r. ⌜ r ≡ provenAt (viewPair p) (pathOf (getD (chunks 54 4 (now (s .entry))) j [])) ⌝ }
+{
+    let at = j * 54;
+    if get_byte(s, at + 53) == 2 {
+        return false;
+    }
+    pair_here(s, at, p)
+}
+
+// How many addresses the i-th link has: the setup and its paths.
+fn addresses(links: &[u8], i: usize, p: Pair) -> usize
+    requires { ⌜ FitLinks (now links) ⌝ }
+    requires { ⌜ i < linkCount (now links) ⌝ }
+    ensures { λ r. ⌜ r ≡ length (reach (viewPair p) (linkAt (now (links .entry)) i)) ⌝ }
+{
+    get_byte(links, i * 297 + 296) as usize + 1
+}
+
+// Whether the index has the i-th link at the pair by its j-th address: the setup unless released, else a path that counts.
+fn reached(links: &[u8], i: usize, j: usize, p: Pair) -> bool
+    requires { ⌜ FitLinks (now links) ⌝ }
+    requires { ⌜ i < linkCount (now links) ⌝ }
+    requires { ⌜ FitPair p ⌝ }
+    requires { ⌜ j < length (reach (viewPair p) (linkAt (now links) i)) ⌝ }
+    ensures { λ r. ⌜ r ≡ getD (reach (viewPair p) (linkAt (now (links .entry)) i)) j false ⌝ }
+{
+    if j == 0 {
+        if released_at(links, i) {
+            return false;
+        }
+        return setup_is(links, i, p);
+    }
+    let from = i * 297 + 80;
+    let end = from + 217;
+    proven_path(&links[from..end], j - 1, p)
+}
+
+// The leg that yields its msg2 for the i-th link, if the index has it by its j-th address.
+fn stored_by(links: &[u8], legs: &[u8], i: usize, j: usize, p: Pair, m: Message) -> Found
+    requires { ⌜ FitLinks (now links) ⌝ }
+    requires { ⌜ FitLegs (now legs) ⌝ }
+    requires { ⌜ i < linkCount (now links) ⌝ }
+    requires { ⌜ FitPair p ⌝ }
+    requires { ⌜ FitMessage m ⌝ }
+    requires { ⌜ j < length (reach (viewPair p) (linkAt (now links) i)) ⌝ }
+    ensures { λ r. ⌜ Tells r (now (legs .entry)) (if getD (reach (viewPair p) (linkAt (now (links .entry)) i)) j false then yieldOf (viewMessage m) (viewLegs (now (legs .entry))) (linkAt (now (links .entry)) i .no) else none) ⌝ }
+{
+    if !reached(links, i, j, p) {
+        return Found::Nothing;
+    }
+    let n = no_at(links, i);
+    yielding(legs, n, m)
+}
+
+// The place of the leg whose link and msg2 `stored` answers.
+pub fn stored(links: &[u8], legs: &[u8], p: Pair, m: Message) -> Found
+    requires { ⌜ FitLinks (now links) ⌝ }
+    requires { ⌜ FitLegs (now legs) ⌝ }
+    requires { ⌜ FitPair p ⌝ }
+    requires { ⌜ FitMessage m ⌝ }
+    ensures { λ r. ⌜ Tells r (now (legs .entry)) (storedIn (viewPair p) (viewMessage m) (viewLegs (now (legs .entry))) (viewLinks (now (links .entry)))) ⌝ }
+{
+    let n = link_count(links);
+    let mut i = 0;
+    let mut at = 0;
+    let mut hit = false;
+    'search: while i < n {
+        let k = addresses(links, i, p);
+        let mut j = 0;
+        while j < k {
+            let f = stored_by(links, legs, i, j, p, m);
+            if let Found::At(g) = f {
+                at = g;
+                hit = true;
+                break 'search;
+            }
+            j += 1;
+        }
+        i += 1;
+    }
+    if hit { Found::At(at) } else { Found::Nothing }
+}
