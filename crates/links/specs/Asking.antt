@@ -1,15 +1,15 @@
 -- Whether some element of a list passes a test, and those that pass, by loops over the places of a map.
-use mathlib.Core.Path.{_≡_, refl, sym, ap, _∙_}
+use mathlib.Core.Path.{_≡_, refl, sym, _∙_}
 use mathlib.Core.Bool.{Bool, true, false, not, _&&_, _||_}
 use mathlib.Core.List.{List, [], _∷_, _++_, map, append-assoc, append-nil}
-use Prim.Native.Nat.{ℕ, zero, suc, _+_, _-_, _≤_, _<_}
+use Prim.Native.Nat.{ℕ, suc, _+_, _-_, _≤_, _<_}
 use native.Mathlib.Nat.{sub-zero}
 use native.Mathlib.Numerals.{add-one}
 use native.Mathlib.Omega.{arith}
 use borrow.Author.Needs.{needs}
-use lib.Seq.{drop-cons, take-suc, take-at, drop-at, length-take-le, take-all, drop-drop}
+use lib.Seq.{drop-cons, take-suc, take-at, drop-at, length-take-le, take-all}
 use lib.ListN.{length, take, drop, getD, set, replicate, drop-of-length-le, length-append, length-replicate}
-use Rattle.rules.specs.Base.{if_then_else_, any, keep}
+use Rattle.rules.specs.Base.{any, keep}
 use Rattle.laws.specs.Shift.{Kept, erase, length-erase, pushed, all-replicate}
 use Rattle.laws.specs.Scan.{shows-cons, length-shows}
 

@@ -1,21 +1,19 @@
 -- What writing a field of a link, or of a path, makes of what is shown; and what is written for a new one.
 use mathlib.Core.Path.{_≡_, refl, sym, ap, _∙_, subst}
-use mathlib.Core.Bool.{Bool, true, false, not, _&&_, _||_}
+use mathlib.Core.Bool.{Bool, true, false, not, _||_}
 use mathlib.Core.Option.{some, none}
-use mathlib.Core.List.{List, [], _∷_, _++_, map, append-assoc, append-nil}
-use Prim.Native.Nat.{ℕ, zero, suc, _+_, _-_, _*_, _≤_, _<_}
-use native.Mathlib.Nat.{add-zero}
+use mathlib.Core.List.{List, [], _∷_, _++_, map, append-assoc}
+use Prim.Native.Nat.{ℕ, suc, _+_, _*_, _≤_, _<_}
 use native.Mathlib.Omega.{arith}
-use borrow.Author.Needs.{needs}
 use borrow.Author.Tests.{leb-false, le-leb, lt-leb}
-use lib.Dec.{eqb, leb, lit≤, lit<}
-use lib.Seq.{take-at, drop-at, take-all, set-set, getD-set-same, length-take-le}
+use lib.Dec.{lit≤, lit<}
+use lib.Seq.{take-at, drop-at, take-all, set-set, getD-set-same}
 use lib.ListN.{length, take, drop, getD, set, replicate, length-set}
 use mir.Syntax.{w32, w64}
 use mir.Val.{Fits}
-use Rattle.rules.specs.Base.{if_then_else_, Bytes, any, keep, one}
-use Rattle.rules.specs.Data.{Pair, samePair, Dir, Inbound, Outbound, Holder, ALeg, APeer, Proven, Live, Acked, Probing, PathRec, LinkRec}
-use Rattle.rules.specs.Field.{digits, more, stateCode}
+use Rattle.rules.specs.Base.{Bytes, any, one}
+use Rattle.rules.specs.Data.{Pair, samePair, Dir, Inbound, Outbound, Holder, APeer, Proven, Live, Acked, Probing, PathRec, LinkRec}
+use Rattle.rules.specs.Field.{digits, stateCode}
 use Rattle.rules.specs.Links.{numbered, pathAt, setPath, opened, heldBy, hold, withPath, path, withoutPath, released, retired}
 use Rattle.laws.specs.Shift.{erase}
 use Rattle.laws.specs.Scan.{scan}
@@ -23,14 +21,14 @@ use Rattle.laws.specs.Place.{any-at, any-nowhere, alter-at, alter-nowhere, find
 use Rattle.laws.specs.Splice.{splice, Wrote, length-digits}
 use Rattle.laws.specs.Round.{more-digits}
 use Rattle.laws.specs.Part.{part-before, part-same, put-is}
-use Rattle.laws.specs.Cell.{num, byteOf, flagOf, Code, flag-shows, flag-code}
-use Rattle.laws.specs.Chunk.{chunks, joined}
+use Rattle.laws.specs.Cell.{Code, flag-shows, flag-code}
+use Rattle.laws.specs.Chunk.{joined}
 use Rattle.laws.specs.Fields.{cuts, cuts-set, cuts-joined, sum}
-use Rattle.laws.specs.Store.{Store, entries, changed-is, pushed-is, store-zeros, entries-count}
+use Rattle.laws.specs.Store.{changed-is, entries-count}
 use Rattle.node_addr.specs.View.{viewPair, FitPair}
-use Rattle.node_addr.specs.Place.{pairOf, PairCell, pairCell, pair-cell-length, pair-cell-fit, pair-cell-shows, pair-zeros}
+use Rattle.node_addr.specs.Place.{pairCell, pair-cell-length, pair-cell-fit, pair-cell-shows}
 use Rattle.node_addr.specs.declared.Pair as pair
-use Rattle.links.specs.View.{stateOf, pathOf, FitPath, viewPaths, FitPaths, pathCount, noPath, newPath, inState, full, crowding, linkWs, dirOf, dirCode, holderOf, linkFrom, linkOf, FitHolder, FitFields, FitLink, viewLinks, FitLinks, linkCount, noLink, withPaths, withReleased, markedAt, cutAt}
+use Rattle.links.specs.View.{stateOf, pathOf, FitPath, viewPaths, FitPaths, pathCount, noPath, newPath, inState, full, crowding, linkWs, dirOf, dirCode, linkFrom, linkOf, FitFields, FitLink, viewLinks, FitLinks, linkCount, noLink, withPaths, withReleased, markedAt, cutAt}
 use Rattle.links.specs.Here.{span, span-is, paths-show}
 use Rattle.links.specs.Zeros.{paths-zeros}
 use Rattle.links.specs.Asking.{and-false}

@@ -9,17 +9,17 @@ use borrow.Author.Needs.{needs}
 use borrow.Author.Tests.{eq-eqb, ne-eqb}
 use lib.Dec.{eqb, lit≤, lit<}
 use lib.Seq.{getD-take, getD-drop, take-take}
-use lib.ListN.{length, take, drop, getD, replicate}
+use lib.ListN.{length, take, drop, getD}
 use Rattle.rules.specs.Base.{if_then_else_, Bytes, empty, any}
-use Rattle.rules.specs.Data.{Pair, samePair, Dir, Inbound, Outbound, Holder, ALeg, APeer, Proven, Live, Acked, Probing, PathRec, LinkRec}
-use Rattle.rules.specs.Links.{numbered, counts, isLeg, pathAt, provenAt, uses, indexed}
-use Rattle.laws.specs.Shift.{Kept, erase, shown, fit-at}
+use Rattle.rules.specs.Data.{Pair, samePair, Inbound, Outbound, ALeg, APeer, Proven, PathRec, LinkRec}
+use Rattle.rules.specs.Links.{counts, isLeg, pathAt, provenAt, uses, indexed}
+use Rattle.laws.specs.Shift.{erase, shown, fit-at}
 use Rattle.laws.specs.Cell.{num, byteOf, flagOf}
 use Rattle.laws.specs.Chunk.{chunks}
 use Rattle.laws.specs.Fields.{cuts, cuts-at, field-at, sum}
-use Rattle.laws.specs.Store.{Store, entries, entries-count}
+use Rattle.laws.specs.Store.{entries-count}
 use Rattle.node_addr.specs.Place.{pairOf, PairCell}
-use Rattle.links.specs.View.{stateOf, pathOf, FitPath, viewPaths, FitPaths, pathCount, linkWs, dirOf, holderOf, linkFrom, linkOf, FitFields, FitLink, viewLinks, FitLinks, linkCount, noLink, noPath, outward}
+use Rattle.links.specs.View.{stateOf, pathOf, FitPath, viewPaths, FitPaths, pathCount, linkWs, dirOf, holderOf, linkFrom, linkOf, FitFields, viewLinks, FitLinks, linkCount, noLink, noPath, outward}
 use Rattle.links.specs.Asking.{or-true, or-false, and-true, and-false, not-true, not-false, Sifted, sifted-drop, sifted-pass}
 
 module _ {s : Bytes} {i : ℕ} (f : FitLinks s) (h : i < linkCount s) where

@@ -5,3 +5,4 @@ pub mod Zeros
 pub mod Change
 pub mod Close
 pub mod Load
+pub mod Same

@@ -1,17 +1,16 @@
 -- A link record read whole, by value.
 use mathlib.Core.Path.{_≡_, refl, sym, ap, _∙_}
-use mathlib.Core.Bool.{Bool, true, false}
-use mathlib.Core.List.{List, [], _∷_, map}
-use Prim.Native.Nat.{ℕ, zero, suc, _+_, _*_, _≤_, _<_}
+use mathlib.Core.List.{[], _∷_, map}
+use Prim.Native.Nat.{ℕ, zero, suc, _+_, _*_, _<_}
 use native.Mathlib.Nat.{add-zero}
 use native.Mathlib.Omega.{arith}
 use lib.Dec.{eqb, lit≤, lit<}
 use lib.Seq.{take-take, drop-drop, length-take-le}
-use lib.ListN.{length, take, drop, getD, length-drop}
+use lib.ListN.{take, drop, getD, length-drop}
 use Rattle.rules.specs.Base.{if_then_else_, Bytes}
-use Rattle.rules.specs.Data.{Pair, Dir, Holder, ALeg, APeer, PathRec, LinkRec}
+use Rattle.rules.specs.Data.{ALeg, APeer, LinkRec}
 use Rattle.laws.specs.Shift.{Kept}
-use Rattle.laws.specs.Cell.{num, byteOf, flagOf}
+use Rattle.laws.specs.Cell.{num}
 use Rattle.laws.specs.Fields.{cuts}
 use Rattle.node_addr.specs.View.{viewPair, FitPair}
 use Rattle.node_addr.specs.Place.{pairOf}

@@ -1,20 +1,19 @@
 -- What link records in memory and by value show, and their canonical form.
-use mathlib.Core.Path.{_≡_, refl, sym, ap, _∙_, subst}
+use mathlib.Core.Path.{_≡_}
 use mathlib.Core.Bool.{Bool, true, false, not, _&&_, _||_}
-use mathlib.Core.List.{List, [], _∷_, _++_, map}
-use Prim.Native.Nat.{ℕ, _+_, _*_, _<_}
-use lib.Dec.{eqb, leb, lit≤, lit<}
+use mathlib.Core.List.{List, [], _∷_, map}
+use Prim.Native.Nat.{ℕ}
+use lib.Dec.{eqb, leb}
 use lib.ListN.{length, take, drop, getD, replicate}
 use Rattle.rules.specs.Base.{if_then_else_, option, find, any, keep, Bytes}
 use Rattle.rules.specs.Data.{Pair, samePair, Dir, Inbound, Outbound, Holder, ALeg, APeer, Proven, Live, Acked, Probing, PathRec, LinkRec}
 use Rattle.rules.specs.Links.{numbered, pathAt}
 use Rattle.laws.specs.Shift.{Kept}
-use Rattle.laws.specs.Buffer.{Any, all-any}
-use Rattle.laws.specs.Cell.{num, byteOf, flagOf, textOf, Code, Text}
+use Rattle.laws.specs.Cell.{num, byteOf, flagOf, Code}
 use Rattle.laws.specs.Fields.{cuts}
 use Rattle.laws.specs.Store.{Store, entries}
-use Rattle.node_addr.specs.Place.{pairOf, PairCell, pair-zeros}
-use Rattle.node_addr.specs.View.{viewPair, FitPair, blankPair, fit-blank-pair}
+use Rattle.node_addr.specs.Place.{pairOf, PairCell}
+use Rattle.node_addr.specs.View.{viewPair, FitPair, blankPair}
 use Rattle.links.specs.declared.record.Dir as dirs
 use Rattle.links.specs.declared.record.Dir.the-variants as dirv
 use Rattle.links.specs.declared.record.Proven as provens

@@ -1,13 +1,13 @@
 -- Zeroed memory is canonical and shows no links.
 use mathlib.Core.Path.{_≡_, refl}
-use mathlib.Core.List.{List, []}
+use mathlib.Core.List.{[]}
 use Prim.Native.Nat.{ℕ}
-use lib.Dec.{lit≤, lit<}
-use lib.ListN.{replicate, getD, getD-replicate, length-replicate}
+use lib.Dec.{lit<}
+use lib.ListN.{replicate, getD-replicate}
 use Rattle.rules.specs.Base.{Bytes}
-use Rattle.laws.specs.Store.{Store, store-zeros}
+use Rattle.laws.specs.Store.{store-zeros}
 use Rattle.node_addr.specs.Place.{pair-zeros}
-use Rattle.links.specs.View.{FitPath, FitPaths, viewPaths, FitLink, FitLinks, viewLinks, linkCount}
+use Rattle.links.specs.View.{FitPath, FitPaths, FitLink, FitLinks, viewLinks, linkCount}
 
 pub path-zeros : FitPath (replicate 54 0)
 path-zeros = record { pair = pair-zeros; state = record { size = refl; low = lit< tt } }

@@ -14,16 +14,15 @@ use node_addr::Pair;
 use node_addr::place::load_pair;
 use node_addr::place::pair_here;
 ghost use mathlib.Core.Path.{_≡_};
-ghost use mathlib.Core.Bool.{not, _&&_, _||_};
-ghost use Prim.Native.Nat.{_+_, _*_, _≤_, _<_};
-ghost use lib.Dec.{eqb};
-ghost use lib.ListN.{length, take, drop, getD};
+ghost use mathlib.Core.Bool.{_||_};
+ghost use Prim.Native.Nat.{_<_};
+ghost use lib.ListN.{length, getD};
 ghost use Rattle.rules.specs.Base.{any, empty};
-ghost use Rattle.rules.specs.Data.{samePair, Outbound};
+ghost use Rattle.rules.specs.Data.{samePair};
 ghost use Rattle.rules.specs.Links.{numbered, isLeg, provenAt, uses, inUse, indexed};
 ghost use Rattle.laws.specs.Scan.{scan};
 ghost use Rattle.node_addr.specs.View.{FitPair, viewPair, Finds};
-ghost use Rattle.links.specs.View.{outward, FitLinks, viewLinks, linkCount, noLink, dirCode, dirOf, viewDir, viewLink, FitRec, full, crowding};
+ghost use Rattle.links.specs.View.{outward, FitLinks, viewLinks, linkCount, noLink, dirOf, viewDir, viewLink, FitRec, full, crowding};
 
 // How many there are.
 pub fn link_count(s: &[u8]) -> usize
