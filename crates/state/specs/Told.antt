@@ -1,15 +1,18 @@
 -- A part of the table lent and put back: the table fits and shows the part's new contents, and all else as before. Steps in a row; counts.
 use mathlib.Core.Path.{_≡_, refl, sym, ap, _∙_, subst}
-use mathlib.Core.List.{List, _++_}
-use Prim.Native.Nat.{ℕ, _+_, _≤_, _<_}
+use mathlib.Core.List.{List, [], _∷_, _++_}
+use Prim.Native.Nat.{ℕ, _+_, _*_, _^_, _≤_, _<_}
 use native.Mathlib.Omega.{arith}
 use lib.Dec.{lit≤}
 use lib.Seq.{drop-drop, length-take-le, take-take}
 use lib.ListN.{length, take, drop, getD, length-drop}
+use mir.Syntax.{w64}
+use mir.Val.{Fits}
 use Rattle.rules.specs.Base.{Bytes}
 use Rattle.rules.specs.Time.{Params}
-use Rattle.rules.specs.Data.{LinkRec, Leg, Held, Memory, Table}
-use Rattle.rules.specs.Settle.{withLinks, withLegs, withHeld, withGates}
+use Rattle.rules.specs.Data.{Pair, Dir, LinkRec, Leg, Held, Memory, Table}
+use Rattle.rules.specs.Links.{opened}
+use Rattle.rules.specs.Settle.{withLinks, withLegs, withHeld, withGates, joined}
 use Rattle.laws.specs.Part.{put-length, put-here, put-before, put-after}
 use Rattle.laws.specs.Store.{entries-count}
 use Rattle.params.specs.Head.{viewMe, paramsOf, viewNext, FitHead, Shows}
@@ -34,11 +37,11 @@ unfolding viewTable
 by-parts {u} {a} {b} {c} {d} {e} z ha hb hc hd he fa fb fc fd fe = record {
   fit = record { size = z; head = subst FitHead (sym ha) fa; links = subst FitLinks (sym hb) fb; legs = subst FitLegs (sym hc) fc; held = subst FitHeld (sym hd) fd; gates = subst FitMemories (sym he) fe };
   shows =
-    ap (λ (x : Bytes). tableFrom x (linksIn u) (legsIn u) (heldIn u) (gatesIn u)) ha
-    ∙ ap (λ (x : Bytes). tableFrom a x (legsIn u) (heldIn u) (gatesIn u)) hb
-    ∙ ap (λ (x : Bytes). tableFrom a b x (heldIn u) (gatesIn u)) hc
-    ∙ ap (λ (x : Bytes). tableFrom a b c x (gatesIn u)) hd
-    ∙ ap (λ (x : Bytes). tableFrom a b c d x) he;
+      ap (λ (x : Bytes). tableFrom x (linksIn u) (legsIn u) (heldIn u) (gatesIn u)) ha
+      ∙ ap (λ (x : Bytes). tableFrom a x (legsIn u) (heldIn u) (gatesIn u)) hb
+      ∙ ap (λ (x : Bytes). tableFrom a b x (heldIn u) (gatesIn u)) hc
+      ∙ ap (λ (x : Bytes). tableFrom a b c x (gatesIn u)) hd
+      ∙ ap (λ (x : Bytes). tableFrom a b c d x) he;
 }
 
 -- ---- a part put back
@@ -138,6 +141,16 @@ told-held {t} f k e = told-is (put-held f k) (ap (λ (x : List Held). withHeld x
 pub told-gates : {t l : Bytes} {x : List Memory} → FitTable t → FitMemories l → viewMemories l ≡ x → Told (take 25189 t ++ (l ++ drop 20289 (drop 25189 t))) (withGates x (viewTable t))
 told-gates {t} f k e = told-is (put-gates f k) (ap (λ (x : List Memory). withGates x (viewTable t)) e)
 
+-- ---- a new link with its leg: three steps
+pub told-joined : (t : Bytes) (p : Pair) (d : Dir) (g : Leg) {a b u : Bytes} {n : ℕ} → n ≡ viewTable t .next
+    → Told a (withLinks (viewTable t .links ++ (opened n p d ∷ [])) (viewTable t))
+    → Told b (withLegs (viewTable a .legs ++ (g ∷ [])) (viewTable a))
+    → Told u (withNext (n + 1) (viewTable b)) → Told u (joined (opened (viewTable t .next) p d) g (viewTable t))
+told-joined t p d g {n = n} e x y z =
+    told-is
+    (told-then (withNext (n + 1)) (told-then (λ (s : Table). withLegs (s .legs ++ (g ∷ [])) s) x y) z)
+    (ap (λ (k : ℕ). withNext (k + 1) (withLegs (viewTable t .legs ++ (g ∷ [])) (withLinks (viewTable t .links ++ (opened k p d ∷ [])) (viewTable t)))) e)
+
 -- ---- a place in a list is one in its part, and room in a list is room in its part
 module _ {t : Bytes} (f : FitTable t) {n : ℕ} where
   pub link-in : n < length (viewTable t .links) → n < linkCount (linksIn t)
@@ -170,6 +183,19 @@ module _ {t : Bytes} (f : FitTable t) {n : ℕ} where
   pub held-room : length (viewTable t .held) < n → heldCount (heldIn t) < n
   unfolding viewTable
   held-room h = rw (← entries-count heldOf (f .held)) h
+
+-- a link's number, and where a leg's cells stand, fit a word
+pub next-fits : {n k : ℕ} → n ≡ k → k + 1 < 2 ^ 64 → Fits w64 (n + 1)
+next-fits e h = record { fits = subst (λ (m : ℕ). m + 1 < 2 ^ 64) (sym e) h }
+
+pub entry-fits : (i : ℕ) → i < 32 → Fits w64 (i * 351)
+entry-fits i h = record { fits = omega arith }
+
+pub cell-fits : (i o : ℕ) → i < 32 → o ≤ 351 → Fits w64 (i * 351 + o)
+cell-fits i o h k = record { fits = omega arith }
+
+pub place-fits : (i o : ℕ) → i < 32 → o ≤ 351 → Fits w64 (9603 + (i * 351 + o))
+place-fits i o h k = record { fits = omega arith }
 
 -- settings within range
 pub params-range : {t : Bytes} → FitTable t → (1 ≤ viewTable t .params .counted) × (viewTable t .params .counted ≤ 8) × (viewTable t .params .replays ≤ 8)
