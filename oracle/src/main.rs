@@ -36,6 +36,7 @@ mod proto {
 mod cover;
 mod damage;
 mod dump;
+mod fields;
 mod generate;
 mod node;
 mod plan;
@@ -53,7 +54,9 @@ const USAGE: &str = "usage: oracle run < tape > out
        oracle generate PROFILE SEED [CALLS] > tape
        oracle cover PROFILE|all FROM TO [CALLS]
        oracle cases PROFILE FROM TO CALLS  (a line for each seed: seed, tape, output, dump in hexadecimal)
-       oracle profiles";
+       oracle profiles
+       oracle fields-set > cases  (slices for readers of records)
+       oracle fields < cases > what is read in each";
 
 fn main() -> ExitCode {
     let args: Vec<String> = std::env::args().skip(1).collect();
@@ -74,6 +77,8 @@ fn run(words: &[&str]) -> Option<Vec<u8>> {
     match words {
         ["run"] => Some(tape::run(&input())),
         ["table"] => Some(dump::after(&input())),
+        ["fields-set"] => Some(fields::set()),
+        ["fields"] => fields::told(&input()),
         ["profiles"] => Some(format!("{}\n", profile::NAMES.join(" ")).into_bytes()),
         ["generate", name, seed] => generate::tape(name, seed.parse().ok()?, None),
         ["generate", name, seed, calls] => {

@@ -17,7 +17,7 @@ ghost use Rattle.legs.specs.View.{FitLegs, viewLegs, legCount, legAt};
 ghost use Rattle.legs.specs.Walk.{perhaps};
 ghost use Rattle.legs.specs.At.{resendDue, pastDeadline};
 
-// `at` is 0 unless `some`.
+// `at` counts only if `some`.
 pub struct Wake {
     pub some: bool,
     pub at: u64,

@@ -147,9 +147,9 @@ module _ (n : ℕ) (p : Pair) (xs : List LinkRec) where
   unfolding releasing
   releasing-none k e = sym (rw (any-nowhere (numbered n) xs e))
 
-  pub releasing-kept : {k : Bool} → k ≡ true → [] ≡ releasing n p k xs
+  pub releasing-kept : {k : Bool} → k ≡ true → (if not k then (p ∷ []) else []) ≡ releasing n p k xs
   unfolding releasing
-  releasing-kept {k} e = sym (rw e (go (not (any (numbered n) xs))))
+  releasing-kept {k} e = rw e (sym (go (not (any (numbered n) xs))))
     where
       go : (b : Bool) → (if b || true || inUse p (released n p xs) then [] else p ∷ []) ≡ []
       go true = refl

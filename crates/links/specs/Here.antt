@@ -173,9 +173,9 @@ pub ruleset reading = (needs, no-is, setup-cell, setup-shows, setup-same, outbou
 
 -- ---- uses and indexed, by what the code asks
 module _ (p : Pair) (r : LinkRec) {b : Bool} (e : b ≡ any (provenAt p) (r .paths)) where
-  pub uses-path : b ≡ true → true ≡ uses p r
+  pub uses-path : b ≡ true → b ≡ uses p r
   unfolding uses
-  uses-path t = sym (rw (← e, t) (or-true (samePair p (r .setup) && (empty (r .paths) || isLeg (r .holder)))))
+  uses-path t = t ∙ sym (rw (← e, t) (or-true (samePair p (r .setup) && (empty (r .paths) || isLeg (r .holder)))))
 
   pub uses-nothing : {w : Bool} → b ≡ false → w ≡ (empty (r .paths) || isLeg (r .holder)) → not w ≡ true → false ≡ uses p r
   unfolding uses
@@ -189,9 +189,9 @@ module _ (p : Pair) (r : LinkRec) {b : Bool} (e : b ≡ any (provenAt p) (r .pat
   unfolding indexed
   indexed-path t = sym (rw (← e, t) (or-true (samePair p (r .setup) && not (r .released))))
 
-  pub indexed-nothing : {w : Bool} → b ≡ false → w ≡ r .released → w ≡ true → false ≡ indexed p r
+  pub indexed-nothing : {w : Bool} → b ≡ false → w ≡ r .released → w ≡ true → not w ≡ indexed p r
   unfolding indexed
-  indexed-nothing {w} t q n = sym (rw (← e, t, ← q, n) (rw (and-false (samePair p (r .setup)))))
+  indexed-nothing {w} t q n = ap not n ∙ sym (rw (← e, t, ← q, n) (rw (and-false (samePair p (r .setup)))))
 
   pub indexed-setup : {w x : Bool} → b ≡ false → w ≡ r .released → w ≡ false → x ≡ samePair p (r .setup) → x ≡ indexed p r
   unfolding indexed

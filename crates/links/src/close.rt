@@ -158,7 +158,7 @@ pub fn release(s: &mut [u8], n: LinkNo, p: Pair, keep: bool) -> bool
     };
     release_at(s, i, p);
     if keep {
-        return false;
+        return !keep;
     }
     !in_use(s, p)
 }

@@ -25,7 +25,7 @@ ghost use Rattle.node_addr.specs.View.{FitPair, viewPair, Finds};
 ghost use Rattle.links.specs.Asking.{Sifted};
 ghost use Rattle.links.specs.View.{stateOf, viewProven, FitPaths, viewPaths, pathCount, pathOf, noPath, newPath, inState, full, viewPath, FitPathRec, blankPath};
 
-pub fn state_code(v: Proven) -> u8
+pub(crate) fn state_code(v: Proven) -> u8
     ensures { λ r. ⌜ r ≡ stateCode (viewProven v) ⌝ }
 {
     match v {
@@ -50,7 +50,7 @@ fn proven_path(s: &[u8], j: usize, p: Pair) -> bool
 }
 
 // Whether a path is at the pair and counts.
-pub fn proves(s: &[u8], p: Pair) -> bool
+pub(crate) fn proves(s: &[u8], p: Pair) -> bool
     requires { ⌜ FitPaths (now s) ⌝ }
     requires { ⌜ FitPair p ⌝ }
     ensures { λ r. ⌜ r ≡ any (provenAt (viewPair p)) (viewPaths (now (s .entry))) ⌝ }
@@ -67,7 +67,7 @@ pub fn proves(s: &[u8], p: Pair) -> bool
 }
 
 // The place of the path at the pair.
-pub fn find_path(s: &[u8], p: Pair) -> Found
+pub(crate) fn find_path(s: &[u8], p: Pair) -> Found
     requires { ⌜ FitPaths (now s) ⌝ }
     requires { ⌜ FitPair p ⌝ }
     ensures { λ r. ⌜ Finds r (scan (pathAt (viewPair p)) 0 (viewPaths (now (s .entry)))) ⌝ }
@@ -84,7 +84,7 @@ pub fn find_path(s: &[u8], p: Pair) -> Found
 }
 
 // Whether a path at the pair would be a fifth.
-pub fn full_for(s: &[u8], p: Pair) -> bool
+pub(crate) fn full_for(s: &[u8], p: Pair) -> bool
     requires { ⌜ FitPaths (now s) ⌝ }
     requires { ⌜ FitPair p ⌝ }
     ensures { λ r. ⌜ r ≡ full (viewPair p) (viewPaths (now (s .entry))) ⌝ }
@@ -125,7 +125,7 @@ fn push_path(s: &mut [u8], p: Pair, v: Proven)
 }
 
 // A path at the pair is in state v: changed, or new.
-pub fn put_path(s: &mut [u8], p: Pair, v: Proven)
+pub(crate) fn put_path(s: &mut [u8], p: Pair, v: Proven)
     requires { ⌜ FitPaths (now s) ⌝ }
     requires { ⌜ FitPair p ⌝ }
     requires { ⌜ full (viewPair p) (viewPaths (now s)) ≡ false ⌝ }
@@ -168,7 +168,7 @@ fn sift(s: &mut [u8], j: usize, p: Pair) -> usize
 }
 
 // The paths at the pair go.
-pub fn drop_paths(s: &mut [u8], p: Pair)
+pub(crate) fn drop_paths(s: &mut [u8], p: Pair)
     requires { ⌜ FitPaths (now s) ⌝ }
     requires { ⌜ FitPair p ⌝ }
     ensures { λ r. ⌜ FitPaths (now (s .exit)) ⌝ }
@@ -204,7 +204,7 @@ fn state_of(b: u8) -> Proven
     }
 }
 
-pub fn blank_path() -> Path
+pub(crate) fn blank_path() -> Path
     ensures { λ r. ⌜ r ≡ blankPath ⌝ }
 {
     let p = blank_pair();
@@ -215,7 +215,7 @@ pub fn blank_path() -> Path
 }
 
 // The paths by value; blank past their count.
-pub fn load_paths(s: &[u8]) -> [Path; 4]
+pub(crate) fn load_paths(s: &[u8]) -> [Path; 4]
     requires { ⌜ FitPaths (now s) ⌝ }
     ensures { λ r. ⌜ Kept FitPathRec blankPath 4 (pathCount (now (s .entry))) r ⌝ }
     ensures { λ r. ⌜ map viewPath (take (pathCount (now (s .entry))) r) ≡ viewPaths (now (s .entry)) ⌝ }

@@ -128,8 +128,9 @@ pub fn uses_at(s: &[u8], i: usize, p: Pair) -> bool
     requires { ⌜ FitPair p ⌝ }
     ensures { λ r. ⌜ r ≡ uses (viewPair p) (getD (viewLinks (now (s .entry))) i noLink) ⌝ }
 {
-    if proven_at(s, i, p) {
-        return true;
+    let used = proven_at(s, i, p);
+    if used {
+        return used;
     }
     if !waits_at(s, i) {
         return false;
@@ -147,8 +148,9 @@ pub fn indexed_at(s: &[u8], i: usize, p: Pair) -> bool
     if proven_at(s, i, p) {
         return true;
     }
-    if released_at(s, i) {
-        return false;
+    let gone = released_at(s, i);
+    if gone {
+        return !gone;
     }
     setup_is(s, i, p)
 }

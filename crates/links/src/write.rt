@@ -112,7 +112,7 @@ pub fn set_path(s: &mut [u8], n: LinkNo, p: Pair, v: Proven)
 }
 
 // The record at a place goes.
-pub fn remove_link(s: &mut [u8], i: usize)
+pub(crate) fn remove_link(s: &mut [u8], i: usize)
     requires { ⌜ FitLinks (now s) ⌝ }
     requires { ⌜ i < linkCount (now s) ⌝ }
     ensures { λ r. ⌜ FitLinks (now (s .exit)) ⌝ }
@@ -176,7 +176,7 @@ fn cut_at(s: &mut [u8], i: usize, p: Pair)
 }
 
 // The bundle of the link at a place released its path at the pair.
-pub fn release_at(s: &mut [u8], i: usize, p: Pair)
+pub(crate) fn release_at(s: &mut [u8], i: usize, p: Pair)
     requires { ⌜ FitLinks (now s) ⌝ }
     requires { ⌜ i < linkCount (now s) ⌝ }
     requires { ⌜ FitPair p ⌝ }

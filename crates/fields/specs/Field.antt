@@ -1,0 +1,112 @@
+-- Flags, pairs and messages, as they stand at the front of what is left of a record.
+use mathlib.Core.Path.{_≡_, refl, sym, ap, _∙_}
+use mathlib.Core.Bool.{Bool, true, false}
+use mathlib.Core.Option.{Option, none, some}
+use mathlib.Core.List.{List, [], _∷_, _++_}
+use Prim.Native.Nat.{ℕ, zero, suc, _+_, _*_, _-_, _≤_, _<_}
+use native.Mathlib.Omega.{arith}
+use borrow.Author.Tests.{leb-true, leb-false}
+use lib.Dec.{eqb, leb}
+use lib.Seq.{drop-drop, length-take-le}
+use lib.ListN.{length, take, drop, getD, replicate, length-drop}
+use Rattle.rules.specs.Base.{if_then_else_, option, Bytes}
+use Rattle.rules.specs.Field.{bind, number, bytes, upTo, pair, message, flags, flag, more}
+use Rattle.laws.specs.Parse.{number-yes, number-no, upTo-yes, upTo-no, upTo-big, byte-is}
+use Rattle.laws.specs.Buffer.{kept-filled, shown-filled}
+use Rattle.node_addr.specs.View.{viewPair, FitPair, FitMessage, blankPair, blankMessage}
+use Rattle.node_addr.specs.declared.Pair as pairs
+use Rattle.node_addr.specs.declared.Message as messages
+use Rattle.fields.specs.declared.field.ReadPair as readpair
+use Rattle.fields.specs.declared.field.ReadMessage as readmessage
+use Rattle.fields.specs.Told.{Told, told-some, told-yes, told-no, below, meant, code-is}
+
+abbrev pub noPair : readpair.ReadPair
+noPair = record { ok = false; value = blankPair }
+
+abbrev pub noMessage : readmessage.ReadMessage
+noMessage = record { ok = false; value = blankMessage }
+
+-- ---- two bytes
+pub two-is : (s : Bytes) (a b : ℕ) → 2 ≤ length s → a ≡ getD s 0 0 → b ≡ getD s 1 0 → a * 256 + b ≡ more 0 (take 2 s)
+unfolding more
+two-is [] a b h e f = absurd (omega arith)
+two-is (x ∷ []) a b h e f = absurd (omega arith)
+two-is (x ∷ y ∷ s) a b h e f = omega arith
+
+-- ---- a flag, by its byte
+truth : (v : ℕ) → v < 2 → getD flags v false ≡ eqb v 1
+truth zero h = refl
+truth (suc zero) h = refl
+truth (suc (suc v)) h = absurd (omega arith)
+
+pub flag-told : {ok : Bool} {v : ℕ} {s : Bytes} → Told 0 (below 2 s) ok v 1 s → v < 2 → Told false (flag s) ok (eqb v 1) 1 s
+flag-told {ok} {v} {s} t h = record {
+  is = rw (code-is flags false s, t .is) (go ok);
+  value = rw (code-is flags false s, t .is) (seen ok (t .value ∙ rw (t .is)));
+  room = t .room;
+}
+  where
+    go : (ok : Bool) → meant flags false (if ok then some (v, drop 1 s) else none) ≡ (if ok then some (eqb v 1, drop 1 s) else none)
+    go true = rw (truth v h)
+    go false = refl
+
+    seen : (ok : Bool) → v ≡ option {A = ℕ × Bytes} (if ok then some (v, drop 1 s) else none) 0 (λ r. r .0) → eqb v 1 ≡ option (meant flags false (if ok then some (v, drop 1 s) else none)) false (λ r. r .0)
+    seen true e = rw (truth v h)
+    seen false e = rw e
+
+-- ---- a pair: transport 4, length 1, address
+module _ (s : Bytes) where
+  pub pair-short : length s < 5 → pair s ≡ none
+  unfolding pair bind
+  pair-short h = go (leb 4 (length s)) refl
+    where
+      go : (b : Bool) → leb 4 (length s) ≡ b → pair s ≡ none
+      go true e = rw (number-yes 4 s (leb-true 4 (length s) e), number-no 1 (drop 4 s) (rw length-drop (omega arith)))
+      go false e = rw (number-no 4 s (leb-false 4 (length s) e))
+
+  module _ {n : ℕ} (h : 5 ≤ length s) (e : n ≡ getD s 4 0) where
+    begun : pair s ≡ option (upTo 48 n (drop 5 s)) none (λ r. some (record { transport = more 0 (take 4 s); addr = r .0 }, r .1))
+    unfolding pair bind
+    begun = rw (number-yes 4 s (omega arith), number-yes 1 (drop 4 s) (rw length-drop (omega arith)), byte-is s 4 (omega arith), ← e, drop-drop 1 4 s)
+
+    pub pair-big : 48 < n → pair s ≡ none
+    pair-big k = begun ∙ rw (upTo-big n (drop 5 s) 48 k)
+
+    pub pair-cut : n ≤ 48 → length s - 5 < n → pair s ≡ none
+    pair-cut k q = begun ∙ rw (upTo-no n (drop 5 s) 48 k (rw length-drop q))
+
+    pub pair-told : {t : ℕ} {bs : Bytes} → n ≤ 48 → n ≤ length s - 5 → t ≡ more 0 (take 4 s) → bs ≡ take n (drop 5 s) ++ replicate (48 - n) 0
+        → Told (viewPair blankPair) (pair s) true (record { transport = t; addr = take n bs }) (5 + n) s
+    pair-told {t} {bs} k q et eb =
+        let l : length (take n (drop 5 s)) ≡ n = length-take-le n (drop 5 s) (rw length-drop q) in
+        told-some (begun ∙ rw (upTo-yes n (drop 5 s) 48 k (rw length-drop q), et, shown-filled (take n (drop 5 s)) (48 - n) n bs l eb, drop-drop n 5 s)) (omega arith)
+
+    pub pair-fits : {t : ℕ} {bs : Bytes} → n ≤ 48 → n ≤ length s - 5 → bs ≡ take n (drop 5 s) ++ replicate (48 - n) 0
+        → FitPair (record { transport = record { 0 = t }; addr = record { len = n; bytes = bs } })
+    pair-fits {bs = bs} k q eb =
+        record { addr = record { kept = kept-filled (take n (drop 5 s)) 48 n bs (length-take-le n (drop 5 s) (rw length-drop q)) k eb } }
+
+-- ---- a message: length 2, bytes
+module _ (s : Bytes) where
+  pub message-short : length s < 2 → message s ≡ none
+  unfolding message bind
+  message-short h = rw (number-no 2 s h)
+
+  module _ {n : ℕ} (h : 2 ≤ length s) (e : n ≡ more 0 (take 2 s)) where
+    sized : message s ≡ upTo 128 n (drop 2 s)
+    unfolding message bind
+    sized = rw (number-yes 2 s h, ← e)
+
+    pub message-big : 128 < n → message s ≡ none
+    message-big k = sized ∙ upTo-big n (drop 2 s) 128 k
+
+    pub message-cut : n ≤ 128 → length s - 2 < n → message s ≡ none
+    message-cut k q = sized ∙ upTo-no n (drop 2 s) 128 k (rw length-drop q)
+
+    pub message-told : {bs : Bytes} → n ≤ 128 → n ≤ length s - 2 → bs ≡ take n (drop 2 s) ++ replicate (128 - n) 0 → Told [] (message s) true (take n bs) (2 + n) s
+    message-told {bs} k q eb =
+        let l : length (take n (drop 2 s)) ≡ n = length-take-le n (drop 2 s) (rw length-drop q) in
+        told-some (sized ∙ rw (upTo-yes n (drop 2 s) 128 k (rw length-drop q), shown-filled (take n (drop 2 s)) (128 - n) n bs l eb, drop-drop n 2 s)) (omega arith)
+
+    pub message-fits : {bs : Bytes} → n ≤ 128 → n ≤ length s - 2 → bs ≡ take n (drop 2 s) ++ replicate (128 - n) 0 → FitMessage (record { len = n; bytes = bs })
+    message-fits {bs} k q eb = record { kept = kept-filled (take n (drop 2 s)) 128 n bs (length-take-le n (drop 2 s) (rw length-drop q)) k eb }

@@ -1,0 +1,140 @@
+-- Zeroed memory has no memories; and regions that fit and show the same are the same bytes.
+use mathlib.Core.Path.{_≡_, refl, sym, ap, ap₂, _∙_}
+use mathlib.Core.Bool.{Bool, true, false}
+use mathlib.Core.Option.{none, some}
+use mathlib.Core.List.{List, [], _∷_, _++_, map, tail}
+use Prim.Native.Nat.{ℕ, zero, suc, _+_, _≤_}
+use native.Mathlib.Omega.{arith}
+use lib.Dec.{lit≤}
+use lib.Seq.{length-take-le, drop-drop}
+use lib.ListN.{length, take, drop, getD, replicate, length-drop, getD-replicate, take-append-drop, drop-of-length-le}
+use Rattle.rules.specs.Base.{if_then_else_, Bytes, All}
+use Rattle.rules.specs.Bounds.{IsByte}
+use Rattle.rules.specs.Data.{Replay, Silence, Memory}
+use Rattle.laws.specs.Shift.{all-take, all-drop}
+use Rattle.laws.specs.Cell.{num, flagOf, num-same, flag-same, option-num-same}
+use Rattle.laws.specs.Chunk.{chunks}
+use Rattle.laws.specs.Fields.{cuts, sum}
+use Rattle.laws.specs.Store.{Store, entries, store-zeros, same-view}
+use Rattle.gates.specs.Rows.{AnyBytes}
+use Rattle.gates.specs.View.{replayOf, digestOf, silenceWs, silenceOf, FitSilenceCell, entryWs, entryOf, FitEntry, viewGates, FitGates, fit-zeros}
+
+-- ---- new memory
+pub fit-new : FitGates (replicate 20289 0)
+fit-new = store-zeros FitEntry 634 32 fit-zeros
+
+pub shows-none : viewGates (replicate 20289 0) ≡ []
+shows-none = ap (λ (n : ℕ). map entryOf (take n (chunks 634 32 (replicate 20289 0)))) (getD-replicate 20289 20288 0 0 (lit≤ tt))
+
+-- ---- equal contents are equal bytes
+cell-size : (w o : ℕ) (c : Bytes) → o + w ≤ length c → length (take w (drop o c)) ≡ w
+cell-size w o c h = length-take-le w (drop o c) (rw length-drop (omega arith))
+
+cell-bytes : (w o : ℕ) (c : Bytes) → All IsByte c → All IsByte (take w (drop o c))
+cell-bytes w o c a = all-take IsByte w (drop o c) (all-drop IsByte o c a)
+
+-- numbers in cells of one width
+num-cells : (w o : ℕ) (c d : Bytes) → o + w ≤ length c → o + w ≤ length d → All IsByte c → All IsByte d → num (take w (drop o c)) ≡ num (take w (drop o d)) → take w (drop o c) ≡ take w (drop o d)
+num-cells w o c d h k a b e =
+    num-same (take w (drop o c)) (take w (drop o d)) (cell-bytes w o c a) (cell-bytes w o d b) (cell-size w o c h ∙ sym (cell-size w o d k)) e
+
+-- what is left of two runs from o on, by its cells
+cells-same : (o : ℕ) (ws c d : Bytes) → length c ≡ o + sum ws → length d ≡ o + sum ws → cuts 0 o ws c ≡ cuts 0 o ws d → drop o c ≡ drop o d
+unfolding sum
+cells-same o [] c d h k e = drop-of-length-le c {i = o} (omega arith) ∙ sym (drop-of-length-le d {i = o} (omega arith))
+cells-same o (w ∷ ws) c d h k e =
+    let z : 0 + o ≡ o = omega arith in
+    let x : take w (drop o c) ≡ take w (drop o d) = rw z at (ap (λ (fs : List Bytes). getD fs 0 []) e) in
+    let y : drop (o + w) c ≡ drop (o + w) d = cells-same (o + w) ws c d (omega arith) (omega arith) (ap tail e) in
+    sym (take-append-drop w (drop o c)) ∙ ap₂ (λ (u v : Bytes). u ++ v) x (step c ∙ y ∙ sym (step d)) ∙ take-append-drop w (drop o d)
+  where
+    step : (c : Bytes) → drop w (drop o c) ≡ drop (o + w) c
+    step c = drop-drop w o c
+
+-- the entries of a region of bytes
+all-chunks : (w n : ℕ) (s : Bytes) → All IsByte s → All (λ c. All IsByte c) (chunks w n s)
+unfolding chunks
+all-chunks w zero s a = tt
+all-chunks w (suc n) s a = (all-take IsByte w s a, all-chunks w n (drop w s) (all-drop IsByte w s a))
+
+all-both : (P Q : Bytes → Type 0) (xs : List Bytes) → All P xs → All Q xs → All (λ c. P c × Q c) xs
+all-both P Q [] a b = tt
+all-both P Q (x ∷ xs) a b = ((a .0, b .0), all-both P Q xs (a .1) (b .1))
+
+with-bytes : {P : Bytes → Type 0} {w cap : ℕ} {s : Bytes} → Store P w cap s → All IsByte s → Store (λ c. P c × All IsByte c) w cap s
+with-bytes {P} {w} {cap} {s} f a = record {
+  size = f .size;
+  kept = record {
+    small = f .kept .small;
+    size = f .kept .size;
+    rest = f .kept .rest;
+    each = all-both P (λ c. All IsByte c) (chunks w cap s) (f .kept .each) (all-chunks w cap s a);
+  };
+}
+
+-- replays, and counted digests
+replay-same : (c d : Bytes) → length c ≡ 40 → length d ≡ 40 → All IsByte c → All IsByte d → replayOf c ≡ replayOf d → c ≡ d
+unfolding sum
+replay-same c d h k a b e =
+    let x : take 32 c ≡ take 32 d = ap (λ (r : Replay). r .ephemeral) e in
+    let y : take 8 (drop 32 c) ≡ take 8 (drop 32 d) = num-cells 8 32 c d (omega arith) (omega arith) a b (ap (λ (r : Replay). r .seen) e) in
+    cells-same 0 (32 ∷ 8 ∷ []) c d h k (rw (x, y))
+
+replays-same : {s u : Bytes} → Store AnyBytes 40 8 s → Store AnyBytes 40 8 u → All IsByte s → All IsByte u → entries replayOf 40 8 s ≡ entries replayOf 40 8 u → s ≡ u
+replays-same f g a b e = same-view replayOf (with-bytes f a) (with-bytes g b) (λ c d p q. replay-same c d (p .1) (q .1) (p .0 .1) (q .0 .1)) e
+
+digests-same : {s u : Bytes} → Store AnyBytes 32 8 s → Store AnyBytes 32 8 u → entries digestOf 32 8 s ≡ entries digestOf 32 8 u → s ≡ u
+digests-same f g e = same-view digestOf f g (λ c d p q z. z) e
+
+-- a silence
+module _ (c d : Bytes) (f : FitSilenceCell c) (g : FitSilenceCell d) (h : length c ≡ 287) (k : length d ≡ 287) (a : All IsByte c) (b : All IsByte d) where
+  silence-same : silenceOf c ≡ silenceOf d → c ≡ d
+  unfolding silenceOf sum
+  silence-same e =
+      let x = option-num-same (f .cells .epoch) (g .cells .epoch) (cell-bytes 8 1 c a) (cell-bytes 8 1 d b) (ap (λ (s : Silence). s .epoch) e) in
+      let y = option-num-same (f .cells .until) (g .cells .until) (cell-bytes 8 22 c a) (cell-bytes 8 22 d b) (ap (λ (s : Silence). s .until) e) in
+      cells-same 0 silenceWs c d h k
+      (rw (
+        x .0,
+        x .1,
+        num-cells 4 9 c d (omega arith) (omega arith) a b (ap (λ (s : Silence). s .count) e),
+        num-cells 8 13 c d (omega arith) (omega arith) a b (ap (λ (s : Silence). s .last) e),
+        y .0,
+        y .1,
+        digests-same (f .cells .counted) (g .cells .counted) (ap (λ (s : Silence). s .counted) e),
+      ))
+
+-- an entry
+module _ (c d : Bytes) (f : FitEntry c) (g : FitEntry d) (h : length c ≡ 634) (k : length d ≡ 634) (a : All IsByte c) (b : All IsByte d) where
+  silences-same : entryOf c .silence ≡ entryOf d .silence → (take 1 (drop 25 c) ≡ take 1 (drop 25 d)) × (take 287 (drop 26 c) ≡ take 287 (drop 26 d))
+  silences-same e = go (flagOf (take 1 (drop 25 c))) (flagOf (take 1 (drop 25 d))) refl refl e
+    where
+      go : (x y : Bool) → flagOf (take 1 (drop 25 c)) ≡ x → flagOf (take 1 (drop 25 d)) ≡ y
+          → (if x then some (silenceOf (take 287 (drop 26 c))) else none) ≡ (if y then some (silenceOf (take 287 (drop 26 d))) else none)
+          → (take 1 (drop 25 c) ≡ take 1 (drop 25 d)) × (take 287 (drop 26 c) ≡ take 287 (drop 26 d))
+      go true true p q z =
+          let w : silenceOf (take 287 (drop 26 c)) ≡ silenceOf (take 287 (drop 26 d)) = cc in (
+            flag-same (f .silent) (g .silent) (p ∙ sym q),
+            silence-same (take 287 (drop 26 c)) (take 287 (drop 26 d)) (f .silence) (g .silence) (cell-size 287 26 c (omega arith)) (cell-size 287 26 d (omega arith)) (cell-bytes 287 26 c a) (cell-bytes 287 26 d b) w,
+          )
+      go true false p q z = let n : _≡_ {A = ℕ} 0 1 = cc in absurd (omega arith)
+      go false true p q z = let n : _≡_ {A = ℕ} 0 1 = cc in absurd (omega arith)
+      go false false p q z = (flag-same (f .silent) (g .silent) (p ∙ sym q), f .quiet p ∙ sym (g .quiet q))
+
+  entry-same : entryOf c ≡ entryOf d → c ≡ d
+  unfolding sum
+  entry-same e =
+      let x = option-num-same (f .stamp) (g .stamp) (cell-bytes 8 17 c a) (cell-bytes 8 17 d b) (ap (λ (m : Memory). m .stamp) e) in
+      let y = silences-same (ap (λ (m : Memory). m .silence) e) in
+      cells-same 0 entryWs c d h k
+      (rw (
+        ap (λ (m : Memory). m .peer) e,
+        x .0,
+        x .1,
+        y .0,
+        y .1,
+        replays-same (f .replays) (g .replays) (cell-bytes 321 313 c a) (cell-bytes 321 313 d b) (ap (λ (m : Memory). m .replays) e),
+      ))
+
+pub same-gates : {s u : Bytes} → FitGates s → FitGates u → All IsByte s → All IsByte u → viewGates s ≡ viewGates u → s ≡ u
+same-gates f g a b e = same-view entryOf (with-bytes f a) (with-bytes g b) (λ c d p q. entry-same c d (p .0 .0) (q .0 .0) (p .1) (q .1) (p .0 .1) (q .0 .1)) e

@@ -1,0 +1,18 @@
+use mathlib.Core.Path.{sym}
+use borrow.Author.Needs.{needs}
+use lib.Seq.{length-take-le}
+use Rattle.input_case.proofs.last_words.Statement.{statement}
+use Rattle.input_case.proofs.last_words.Tie as tie
+
+pub last-words-spec : {M : Type 1} → statement M
+last-words-spec =
+    tie.close
+    (tie.spec
+    (λ c. search needs)
+    (λ c. sym (length-take-le _ _ (search needs)))
+    (λ c κs. search needs)
+    (λ c κs. search needs)
+    (λ c. search needs)
+    (λ c κs. search needs)
+    (λ c κs. search needs)
+    (λ c. search needs))

@@ -1,0 +1,4 @@
+pub mod View
+pub mod Loops
+pub mod Judge
+pub mod Silences

@@ -1,0 +1,4 @@
+pub mod Codes
+pub mod Write
+pub mod Lists
+pub mod Size
