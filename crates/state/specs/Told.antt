@@ -15,13 +15,18 @@ use Rattle.rules.specs.Links.{opened}
 use Rattle.rules.specs.Settle.{withLinks, withLegs, withHeld, withGates, joined}
 use Rattle.laws.specs.Part.{put-length, put-here, put-before, put-after}
 use Rattle.laws.specs.Store.{entries-count}
+use Rattle.params.specs.declared.Params as params
+use Rattle.params.specs.View.{viewParams}
 use Rattle.params.specs.Head.{viewMe, paramsOf, viewNext, FitHead, Shows}
 use Rattle.node_addr.specs.Alike.{part-of}
 use Rattle.links.specs.View.{linkOf, viewLinks, FitLinks, linkCount}
 use Rattle.legs.specs.View.{legOf, viewLegs, FitLegs, legCount}
 use Rattle.legs.specs.At.{Stands}
 use Rattle.held.specs.View.{heldOf, viewHeld, FitHeld, heldCount}
-use Rattle.state.specs.View.{headIn, linksIn, legsIn, heldIn, gatesIn, viewMemories, FitMemories, viewTable, FitTable, Told, withHead, withNext}
+use Rattle.memories.specs.View.{FitParams}
+use Rattle.gates.specs.View.{entryOf, viewGates, FitGates, gateCount}
+use Rattle.gates.specs.Order.{Room}
+use Rattle.state.specs.View.{headIn, linksIn, legsIn, heldIn, gatesIn, viewTable, FitTable, Told, withHead, withNext}
 
 -- a part ends within the table
 pub part-end : {t : Bytes} {e : ℕ} → FitTable t → e ≤ 45478 → e ≤ length t
@@ -29,13 +34,13 @@ part-end {e = e} f h = subst (λ (n : ℕ). e ≤ n) (sym (f .size)) h
 
 -- ---- a table by its parts
 abbrev tableFrom : Bytes → Bytes → Bytes → Bytes → Bytes → Table
-tableFrom a b c d e = record { me = viewMe a; params = paramsOf a; next = viewNext a; links = viewLinks b; legs = viewLegs c; held = viewHeld d; gates = viewMemories e }
+tableFrom a b c d e = record { me = viewMe a; params = paramsOf a; next = viewNext a; links = viewLinks b; legs = viewLegs c; held = viewHeld d; gates = viewGates e }
 
 by-parts : {u a b c d e : Bytes} → length u ≡ 45478 → headIn u ≡ a → linksIn u ≡ b → legsIn u ≡ c → heldIn u ≡ d → gatesIn u ≡ e
-    → FitHead a → FitLinks b → FitLegs c → FitHeld d → FitMemories e → Told u (tableFrom a b c d e)
+    → FitHead a → FitLinks b → FitLegs c → FitHeld d → FitGates e → Told u (tableFrom a b c d e)
 unfolding viewTable
 by-parts {u} {a} {b} {c} {d} {e} z ha hb hc hd he fa fb fc fd fe = record {
-  fit = record { size = z; head = subst FitHead (sym ha) fa; links = subst FitLinks (sym hb) fb; legs = subst FitLegs (sym hc) fc; held = subst FitHeld (sym hd) fd; gates = subst FitMemories (sym he) fe };
+  fit = record { size = z; head = subst FitHead (sym ha) fa; links = subst FitLinks (sym hb) fb; legs = subst FitLegs (sym hc) fc; held = subst FitHeld (sym hd) fd; gates = subst FitGates (sym he) fe };
   shows =
       ap (λ (x : Bytes). tableFrom x (linksIn u) (legsIn u) (heldIn u) (gatesIn u)) ha
       ∙ ap (λ (x : Bytes). tableFrom a x (legsIn u) (heldIn u) (gatesIn u)) hb
@@ -98,7 +103,7 @@ module _ {t l : Bytes} (f : FitTable t) where
       (put-after 20836 4353 t l (k .size) h 25189 20289 (lit≤ tt))
       (f .head) (f .links) (f .legs) k (f .gates)
 
-  put-gates : FitMemories l → Told (take 25189 t ++ (l ++ drop 20289 (drop 25189 t))) (withGates (viewMemories l) (viewTable t))
+  put-gates : FitGates l → Told (take 25189 t ++ (l ++ drop 20289 (drop 25189 t))) (withGates (viewGates l) (viewTable t))
   unfolding viewTable
   put-gates k =
       let h : 25189 + 20289 ≤ length t = part-end f (lit≤ tt) in
@@ -138,7 +143,7 @@ told-legs {t} f k e = told-is (put-legs f k) (ap (λ (x : List Leg). withLegs x 
 pub told-held : {t l : Bytes} {x : List Held} → FitTable t → FitHeld l → viewHeld l ≡ x → Told (take 20836 t ++ (l ++ drop 4353 (drop 20836 t))) (withHeld x (viewTable t))
 told-held {t} f k e = told-is (put-held f k) (ap (λ (x : List Held). withHeld x (viewTable t)) e)
 
-pub told-gates : {t l : Bytes} {x : List Memory} → FitTable t → FitMemories l → viewMemories l ≡ x → Told (take 25189 t ++ (l ++ drop 20289 (drop 25189 t))) (withGates x (viewTable t))
+pub told-gates : {t l : Bytes} {x : List Memory} → FitTable t → FitGates l → viewGates l ≡ x → Told (take 25189 t ++ (l ++ drop 20289 (drop 25189 t))) (withGates x (viewTable t))
 told-gates {t} f k e = told-is (put-gates f k) (ap (λ (x : List Memory). withGates x (viewTable t)) e)
 
 -- ---- a new link with its leg: three steps
@@ -201,6 +206,18 @@ place-fits i o h k = record { fits = omega arith }
 pub params-range : {t : Bytes} → FitTable t → (1 ≤ viewTable t .params .counted) × (viewTable t .params .counted ≤ 8) × (viewTable t .params .replays ≤ 8)
 unfolding viewTable
 params-range f = (f .head .some-counted, f .head .counted, f .head .replays)
+
+pub fit-params : {t : Bytes} (c : params.Params) → FitTable t → viewParams c ≡ viewTable t .params → FitParams c
+fit-params {t} c f e =
+    let r = params-range f in
+    let s : (1 ≤ viewParams c .counted) × (viewParams c .counted ≤ 8) × (viewParams c .replays ≤ 8) =
+    subst (λ (q : Params). (1 ≤ q .counted) × (q .counted ≤ 8) × (q .replays ≤ 8)) (sym e) r in
+    record { some-counted = s .0; counted = s .1; replays = s .2 }
+
+-- room for a memory of the peer, where it has none
+pub gates-room : {t : Bytes} (p : Bytes) → FitTable t → Room p (viewTable t .gates) (length (viewTable t .gates)) → Room p (viewGates (gatesIn t)) (gateCount (gatesIn t))
+unfolding viewTable
+gates-room p f r = record { room = λ e. subst (λ (n : ℕ). n < 32) (entries-count entryOf (f .gates)) (r .room e) }
 
 -- what stands in the legs' part stands in the table
 pub stands-whole : {bs : Bytes} {at n : ℕ} {t : Bytes} → FitTable t → Stands bs at n (legsIn t) → Stands bs (9603 + at) n t

@@ -1,16 +1,15 @@
 -- The whole table in one run of bytes: its parts, what it shows, and when it fits.
 use mathlib.Core.Path.{_≡_}
-use mathlib.Core.Option.{none}
-use mathlib.Core.List.{List, [], _∷_}
 use Prim.Native.Nat.{ℕ}
 use lib.ListN.{length, take, drop, getD}
 use Rattle.rules.specs.Base.{Bytes}
 use Rattle.rules.specs.Time.{Params}
-use Rattle.rules.specs.Data.{LinkRec, Leg, Held, Memory, Table}
+use Rattle.rules.specs.Data.{LinkRec, Leg, Held, Table}
 use Rattle.params.specs.Head.{viewMe, paramsOf, viewNext, FitHead}
 use Rattle.links.specs.View as links
 use Rattle.legs.specs.View as legs
 use Rattle.held.specs.View as held
+use Rattle.gates.specs.View as gates
 
 -- ---- the parts
 abbrev pub headIn : Bytes → Bytes
@@ -28,13 +27,6 @@ heldIn t = take 4353 (drop 20836 t)
 abbrev pub gatesIn : Bytes → Bytes
 gatesIn t = take 20289 (drop 25189 t)
 
--- ---- the memories' part: its bytes, as one memory's peer
-unfoldable pub viewMemories : Bytes → List Memory
-viewMemories s = record { peer = s; stamp = none; replays = []; silence = none } ∷ []
-
-pub record FitMemories (s : Bytes) : Type 0 where
-  pub size : length s ≡ 20289
-
 -- ---- the whole
 unfoldable pub viewTable : Bytes → Table
 viewTable t = record {
@@ -44,7 +36,7 @@ viewTable t = record {
   links = links.viewLinks (linksIn t);
   legs = legs.viewLegs (legsIn t);
   held = held.viewHeld (heldIn t);
-  gates = viewMemories (gatesIn t);
+  gates = gates.viewGates (gatesIn t);
 }
 
 pub record FitTable (t : Bytes) : Type 0 where
@@ -53,7 +45,7 @@ pub record FitTable (t : Bytes) : Type 0 where
   pub links : links.FitLinks (linksIn t)
   pub legs : legs.FitLegs (legsIn t)
   pub held : held.FitHeld (heldIn t)
-  pub gates : FitMemories (gatesIn t)
+  pub gates : gates.FitGates (gatesIn t)
 
 -- the bytes t are a table that shows as x
 pub record Told (t : Bytes) (x : Table) : Type 0 where
