@@ -156,6 +156,9 @@ told-joined t p d g {n = n} e x y z =
     (told-then (withNext (n + 1)) (told-then (λ (s : Table). withLegs (s .legs ++ (g ∷ [])) s) x y) z)
     (ap (λ (k : ℕ). withNext (k + 1) (withLegs (viewTable t .legs ++ (g ∷ [])) (withLinks (viewTable t .links ++ (opened k p d ∷ [])) (viewTable t)))) e)
 
+pub still-room : {a : Bytes} {y : Table} → Told a y → length (y .legs) < 32 → length (viewTable a .legs) < 32
+still-room e h = subst (λ (x : Table). length (x .legs) < 32) (sym (e .shows)) h
+
 -- ---- a place in a list is one in its part, and room in a list is room in its part
 module _ {t : Bytes} (f : FitTable t) {n : ℕ} where
   pub link-in : n < length (viewTable t .links) → n < linkCount (linksIn t)

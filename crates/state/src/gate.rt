@@ -26,7 +26,16 @@ pub fn memory_count(t: &[u8]) -> usize
 }
 
 // The judgement of what asks.
-pub fn judged(t: &[u8], peer: NodeAddr, source: Source, l: Liveness, digest: Digest, epoch: u64, clock: u64, c: Params) -> Verdict
+pub fn judged(
+    t: &[u8],
+    peer: NodeAddr,
+    source: Source,
+    l: Liveness,
+    digest: Digest,
+    epoch: u64,
+    clock: u64,
+    c: Params,
+) -> Verdict
     requires { ⌜ FitTable (now t) ⌝ }
     ensures { λ r. ⌜ refusedBy r ≡ rule.gate (viewParams c) clock (asking source l digest epoch) (rule.memory (peer .0) (viewTable (now (t .entry)) .gates)) ⌝ }
 {
@@ -45,7 +54,15 @@ pub fn promoted(t: &mut [u8], peer: NodeAddr, digest: Digest, clock: u64, c: Par
 }
 
 // A session of the peer ended unheard; `setup` is the digest of the msg1 that it came from, if it came from one (`answered`).
-pub fn ended(t: &mut [u8], peer: NodeAddr, epoch: u64, answered: bool, setup: Digest, clock: u64, c: Params)
+pub fn ended(
+    t: &mut [u8],
+    peer: NodeAddr,
+    epoch: u64,
+    answered: bool,
+    setup: Digest,
+    clock: u64,
+    c: Params,
+)
     requires { ⌜ FitTable (now t) ⌝ }
     requires { ⌜ Ascending rule.earlierMemory (viewTable (now t) .gates) ⌝ }
     requires { ⌜ All (Within (viewParams c)) (viewTable (now t) .gates) ⌝ }

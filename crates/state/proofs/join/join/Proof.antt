@@ -1,18 +1,14 @@
 -- `state::join::join` meets its contract.
-use Prim.Native.Nat.{_<_}
-use mathlib.Core.Path.{sym, _∙_, subst}
-use lib.ListN.{length}
-use Rattle.rules.specs.Data.{Table}
-use Rattle.state.specs.Told.{next-fits, told-joined}
+use mathlib.Core.Path.{sym, _∙_}
+use Rattle.state.specs.Told.{next-fits, still-room, told-joined}
 use borrow.Author.Needs.{needs}
 use Rattle.state.proofs.join.join.Statement.{statement}
 use Rattle.state.proofs.join.join.Tie as tie
 
 add-leg-requires : tie.Need-add-leg-requires
 add-leg-requires c κs =
-    let e = c .before .before .before .add-link .ensures in
     let p = c .before .before .before .before .before .before .before .before .pre in
-    (e .fit, (p .1 .1 .0, subst (λ (x : Table). length (x .legs) < 32) (sym (e .shows)) (p .1 .1 .1 .1 .0)))
+    (c .before .before .before .add-link .ensures .fit, (p .1 .1 .0, still-room (c .before .before .before .add-link .ensures) (p .1 .1 .1 .1 .0)))
 
 add-set-next : tie.Need-add-set-next
 add-set-next c = next-fits (c .before .before .before .before .before .before .before .before .before .next-no .ensures) (c .before .before .before .before .before .before .before .before .before .before .before .before .pre .1 .1 .1 .1 .1)
