@@ -1,3 +1,4 @@
 pub mod View
 pub mod Told
 pub mod Same
+pub mod Ask
