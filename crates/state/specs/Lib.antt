@@ -1,0 +1,4 @@
+pub mod View
+pub mod Told
+pub mod Same
+pub mod Ask
