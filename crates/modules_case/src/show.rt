@@ -1,0 +1,47 @@
+// The words of a line.
+use node_addr::Found;
+
+pub fn name(s: &[u8]) {
+    io::write_all(1, s);
+}
+
+pub fn number(v: u64) {
+    io::write_all(1, &[b' ']);
+    io::print_decimal(1, v);
+}
+
+pub fn size(n: usize) {
+    number(n as u64);
+}
+
+pub fn small(n: u32) {
+    number(n as u64);
+}
+
+pub fn byte(n: u8) {
+    number(n as u64);
+}
+
+fn one(b: bool) -> u64 {
+    if b { 1 } else { 0 }
+}
+
+pub fn truth(b: bool) {
+    number(one(b));
+}
+
+fn nothing() {
+    io::write_all(1, &[b' ', b'-']);
+}
+
+// A place, `-` for none.
+pub fn place(f: Found) {
+    match f {
+        Found::At(i) => size(i),
+        Found::Nothing => nothing(),
+    }
+}
+
+pub fn end_line() {
+    io::write_all(1, &[b'\n']);
+}
