@@ -59,7 +59,7 @@ module _ (x : Timed) where
       → Shaped (withLegs (alter (onLink n) h (t .legs)) t)
   shaped-legs t n h a b k y = stays y (stays-legs t k (onLink n) h b) (ordered-legs t (y .ordered) (onLink n) h a)
 
-  shaped : Closed Shaped x
+  pub shaped : Closed Shaped x
   unfolding resent
   shaped = record {
     dials = λ t p to m l q n r k y. shaped-dial t p to m l r k y;

@@ -109,7 +109,7 @@ fine-answer now x b t k = fine-joined t _ _ refl refl k _ (λ l. refl, refl)
 
 -- ---- a leg ends, a holder goes
 
-fine-ends : (g : Leg) (t : Table) → legAt (g .link) t ≡ some g → Good t → Fine t nothing (ends g t)
+pub fine-ends : (g : Leg) (t : Table) → legAt (g .link) t ≡ some g → Good t → Fine t nothing (ends g t)
 unfolding ends
 fine-ends g t e k =
     let gone = records-retired (g .link) (t .links) (leg-record t (g .link) g e k) in

@@ -1,9 +1,9 @@
 -- The table keeps to its limits: 32 links, as many legs and holders together, 32 places, and so 32 memories.
-use mathlib.Core.Path.{_≡_, refl, sym, ap, subst}
+use mathlib.Core.Path.{_≡_, refl, sym, ap, _∙_, subst}
 use mathlib.Core.Bool.{Bool, true, false, not, _&&_, _||_}
 use mathlib.Core.Option.{Option, none, some}
 use mathlib.Core.List.{List, [], _∷_, _++_, map}
-use Prim.Native.Nat.{ℕ, _+_, _≤_}
+use Prim.Native.Nat.{ℕ, _+_, _≤_, _<_}
 use native.Mathlib.Omega.{arith}
 use borrow.Author.Tests.{leb-false}
 use lib.Dec.{leb}
@@ -19,7 +19,7 @@ use Rattle.rules.specs.Bounds.{IfAny, Ordered, Limits}
 use Rattle.rules.proofs.Lists.{if-by, option-by, eqb-same, find-test, tally-found, all-append, all-map}
 use Rattle.rules.proofs.Good.{Good, records-hold, records-retired, leg-record, held-record}
 use Rattle.rules.proofs.Calls.{good-stamp}
-use Rattle.rules.proofs.Peers.{same-sound, or-true-right, Within, within-length}
+use Rattle.rules.proofs.Peers.{same-sound, same-refl, or-true-right, Within, within-length}
 use Rattle.rules.proofs.Order.{contra, all-find, all-without, all-alter, all-insert, all-mapped, length-without, length-less, length-alter, length-snoc, length-insert, before-apart, store-by}
 
 -- ---- who has no place
@@ -365,3 +365,34 @@ module _ (t : Table) (k : Limits t) where
           gates = x .gates;
         })),
       )
+
+-- ---- room for one more memory: of a peer that has a place, but no memory
+
+module _ (t : Table) (p : Bytes) where
+  placed : (Absent p t → Other p p) → any (same p) (namedPeers t) ≡ true
+  placed f = go (any (same p) (namedPeers t)) refl
+    where
+      go : (b : Bool) → any (same p) (namedPeers t) ≡ b → any (same p) (namedPeers t) ≡ true
+      go true e = e
+      go false e = contra (sym (same-refl p) ∙ f (absent-of p t e))
+
+  abbrev own : List Bytes
+  own = map (λ m. m .peer) (t .gates)
+
+  free : Ordered t → any (same p) (namedPeers t) ≡ true → Elsewhere p (t .gates) → length (t .gates) + 1 ≤ length (places t)
+  unfolding places distinct
+  free k h e =
+      let alone : any (same p) own ≡ false = any-none (same p) own (all-mapped (λ m. m .peer) (Other p) (t .gates) e) in
+      let size : length (distinct (p ∷ own)) ≡ length (t .gates) + 1 = rw alone (omega (arith, distinct-keys (t .gates) (k .gates))) in
+      omega (arith, size, within-length (p ∷ own) (namedPeers t) (λ q x. go q (same q p) refl x))
+    where
+      go : (q : Bytes) (b : Bool) → same q p ≡ b → b || any (same q) own ≡ true → any (same q) (namedPeers t) ≡ true
+      go q true d x = rw (same-sound q p d) h
+      go q false d x = any-right (same q) (map (λ h. h .peer) (t .held) ++ legPeers (t .legs)) own x
+
+  module _ (g : Good t) (k : Ordered t) (l : Limits t) where
+    pub room-held : (h : Held) → heldAt p t ≡ some h → Elsewhere p (t .gates) → length (t .gates) < 32
+    room-held h e x = omega (arith, l .places, free k (placed (not-held-as t g p p h e)) x)
+
+    pub room-leg : (n : ℕ) (j : Leg) → legAt n t ≡ some j → j .peer ≡ some p → Elsewhere p (t .gates) → length (t .gates) < 32
+    room-leg n j e f x = omega (arith, l .places, free k (placed (not-leg t g p n j p e f)) x)
