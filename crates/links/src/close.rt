@@ -21,7 +21,7 @@ ghost use Rattle.rules.specs.Links.{inUse, addresses, retired, retiring, releas
 ghost use Rattle.node_addr.specs.View.{FitPair, viewPair};
 ghost use Rattle.links.specs.View.{FitLinks, viewLinks, FitRec, viewLink, FitCloses, viewCloses};
 
-fn no_closes() -> Closes
+pub fn no_closes() -> Closes
     ensures { λ r. ⌜ FitCloses r ⌝ }
     ensures { λ r. ⌜ r .len ≡ 0 ⌝ }
     ensures { λ r. ⌜ viewCloses r ≡ [] ⌝ }
