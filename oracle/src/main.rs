@@ -38,6 +38,7 @@ mod damage;
 mod dump;
 mod fields;
 mod generate;
+mod layout;
 mod node;
 mod plan;
 mod profile;
@@ -51,6 +52,7 @@ use std::process::ExitCode;
 
 const USAGE: &str = "usage: oracle run < tape > out
        oracle table < tape > dump
+       oracle layout < tape > table  (the same in the bytes of a lent table)
        oracle generate PROFILE SEED [CALLS] > tape
        oracle cover PROFILE|all FROM TO [CALLS]
        oracle cases PROFILE FROM TO CALLS  (a line for each seed: seed, tape, output, dump in hexadecimal)
@@ -77,6 +79,7 @@ fn run(words: &[&str]) -> Option<Vec<u8>> {
     match words {
         ["run"] => Some(tape::run(&input())),
         ["table"] => Some(dump::after(&input())),
+        ["layout"] => Some(layout::after(&input())),
         ["fields-set"] => Some(fields::set()),
         ["fields"] => fields::told(&input()),
         ["profiles"] => Some(format!("{}\n", profile::NAMES.join(" ")).into_bytes()),
