@@ -1,0 +1,90 @@
+-- A held peer that restarted, or that was heard: each way of the step.
+use mathlib.Core.Path.{_≡_, sym, _∙_, subst}
+use mathlib.Core.Bool.{Bool, true, false}
+use mathlib.Core.Option.{none, some}
+use mathlib.Core.List.{List, [], _∷_}
+use Prim.Native.Nat.{ℕ, _+_, _≤_}
+use native.Mathlib.Omega.{arith}
+use lib.ListN.{length}
+use Rattle.rules.specs.Base.{if_then_else_, Bytes, alter}
+use Rattle.rules.specs.Std.{Ascending}
+use Rattle.rules.specs.Data.{Pair, samePair, Table, Transition, Output, Reset, Roam}
+use Rattle.rules.specs.Output.{outputRecord}
+use Rattle.rules.specs.Gates.{memory, store, clear, earlierMemory}
+use Rattle.rules.specs.Settle.{withHeld, withGates, writes, still, named, withEpoch, restarted, heardFrom, heard}
+use Rattle.laws.specs.Scan.{scan}
+use Rattle.laws.specs.Place.{find-at, find-nowhere}
+use Rattle.laws.specs.Splice.{Wrote}
+use Rattle.output.specs.Write.{puts-one}
+use Rattle.held.specs.View.{noHeld}
+use Rattle.state.specs.View.{viewTable, FitTable, Told, nthHeld}
+use Rattle.state.specs.Told.{told-then}
+use Rattle.steps.specs.Did.{Space, Did, space-is, did-is, space-head, puts-end, did-still}
+
+-- room for a Reset of a peer's address
+reset-room : {o : Bytes} {at : ℕ} {s : List Output} (p : Bytes) (k : Transition) → length p ≡ 16 → Space o at (Reset p k ∷ s) → at + 21 ≤ length o
+reset-room p k e a = omega (arith, e, space-head (Reset p k) a)
+
+-- ---- restarted
+module _ (p : Bytes) (epoch : ℕ) (x : Table) where
+  restarted-none : scan (named p) 0 (x .held) ≡ none → restarted p epoch x ≡ still x
+  unfolding restarted
+  restarted-none e = rw (find-nowhere (named p) (x .held) e)
+
+  restarted-some : {i : ℕ} → scan (named p) 0 (x .held) ≡ some i
+      → restarted p epoch x ≡ writes (Reset p Transition.Restarted ∷ []) (withHeld (alter (named p) (withEpoch epoch) (x .held)) x)
+  unfolding restarted
+  restarted-some {i} e = rw (find-at (named p) (x .held) i e noHeld)
+
+  pub restarted-room : {o : Bytes} {at i : ℕ} → length p ≡ 16 → scan (named p) 0 (x .held) ≡ some i → Space o at ((restarted p epoch x) .outs) → at + 21 ≤ length o
+  restarted-room l e a = reset-room p Transition.Restarted l (space-is a (restarted-some e))
+
+  pub restarted-did : {t o : Bytes} {at n : ℕ} {o′ : Bytes} {r i : ℕ} → scan (named p) 0 (x .held) ≡ some i
+      → Told t (withHeld (alter (named p) (withEpoch epoch) (x .held)) x) → Wrote o at n (outputRecord (Reset p Transition.Restarted)) o′ r
+      → Did o at t o′ r (restarted p epoch x)
+  restarted-did e t w = did-is (record { table = t; puts = puts-one (Reset p Transition.Restarted) w }) (sym (restarted-some e))
+
+pub restarted-still : {t o : Bytes} {at : ℕ} (p : Bytes) (epoch : ℕ) → FitTable t → scan (named p) 0 (viewTable t .held) ≡ none
+    → Space o at ((restarted p epoch (viewTable t)) .outs) → Did o at t o at (restarted p epoch (viewTable t))
+restarted-still {t} p epoch f e a = let q = restarted-none p epoch (viewTable t) e in did-is (did-still f (space-is a q)) (sym q)
+
+-- ---- heard
+module _ (now : ℕ) (p : Bytes) (from : Pair) (x : Table) where
+  abbrev met : Table
+  met = withHeld (alter (named p) (heardFrom now from) (x .held)) x
+
+  abbrev cleared : Table → Table
+  cleared y = withGates (store (clear (memory p (y .gates))) (y .gates)) y
+
+  heard-none : scan (named p) 0 (x .held) ≡ none → heard now p from x ≡ still x
+  unfolding heard
+  heard-none e = rw (find-nowhere (named p) (x .held) e)
+
+  module _ {i : ℕ} (e : scan (named p) 0 (x .held) ≡ some i) {b : Bool} (v : b ≡ samePair from (nthHeld x i .current)) where
+    heard-some : heard now p from x ≡ writes (if b then [] else Reset p Roam ∷ []) (cleared met)
+    unfolding heard
+    heard-some = rw (find-at (named p) (x .held) i e noHeld, v)
+
+    heard-stays : b ≡ true → heard now p from x ≡ writes [] (cleared met)
+    heard-stays w = rw w at heard-some
+
+    heard-roams : b ≡ false → heard now p from x ≡ writes (Reset p Roam ∷ []) (cleared met)
+    heard-roams w = rw w at heard-some
+
+    pub stays-did : {o : Bytes} {at : ℕ} {t₁ t₂ : Bytes} → b ≡ true → Space o at ((heard now p from x) .outs) → Told t₁ met → Told t₂ (cleared (viewTable t₁))
+        → Did o at t₂ o at (heard now p from x)
+    stays-did w a t u = did-is (record { table = told-then cleared t u; puts = puts-end (space-is a (heard-stays w)) }) (sym (heard-stays w))
+
+    pub roams-room : {o : Bytes} {at : ℕ} → length p ≡ 16 → b ≡ false → Space o at ((heard now p from x) .outs) → at + 21 ≤ length o
+    roams-room l w a = reset-room p Roam l (space-is a (heard-roams w))
+
+    pub roams-did : {o : Bytes} {at n : ℕ} {t₁ t₂ o′ : Bytes} {r : ℕ} → b ≡ false → Told t₁ met → Told t₂ (cleared (viewTable t₁))
+        → Wrote o at n (outputRecord (Reset p Roam)) o′ r → Did o at t₂ o′ r (heard now p from x)
+    roams-did w t u k = did-is (record { table = told-then cleared t u; puts = puts-one (Reset p Roam) k }) (sym (heard-roams w))
+
+  pub gates-stay : {t : Bytes} → Told t met → Ascending earlierMemory (x .gates) → Ascending earlierMemory (viewTable t .gates)
+  gates-stay a g = subst (λ (y : Table). Ascending earlierMemory (y .gates)) (sym (a .shows)) g
+
+pub heard-still : {t o : Bytes} {at : ℕ} (now : ℕ) (p : Bytes) (from : Pair) → FitTable t → scan (named p) 0 (viewTable t .held) ≡ none
+    → Space o at ((heard now p from (viewTable t)) .outs) → Did o at t o at (heard now p from (viewTable t))
+heard-still {t} now p from f e a = let q = heard-none now p from (viewTable t) e in did-is (did-still f (space-is a q)) (sym q)
