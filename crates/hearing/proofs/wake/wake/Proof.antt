@@ -1,22 +1,14 @@
+-- `hearing::wake::wake` meets its contract.
+use Rattle.hearing.specs.Wake.{wake-room, wake-puts}
 use borrow.Author.Needs.{needs}
 use Rattle.hearing.proofs.wake.wake.Statement.{statement}
 use Rattle.hearing.proofs.wake.wake.Tie as tie
-use Rattle.hearing.proofs.wake.wake.Reads as reads
-use Rattle.hearing.proofs.wake.wake.Lts as lts
-use Rattle.output.proofs.put.put_wake.Reads as put-wake-reads
-use Rattle.state.proofs.leg.next_wake.Reads as next-wake-reads
-
-next-wake-requires : tie.Need-next-wake-requires
-next-wake-requires c κs = search needs
 
 put-wake-requires : tie.Need-put-wake-requires
-put-wake-requires c κs = search needs
-
-same-length : tie.Need-same-length
-same-length c = search needs
+put-wake-requires c κs = wake-room (c .before .next-wake .result .some) (c .before .next-wake .result .at) (c .before .next-wake .ensures) (c .before .before .before .before .pre .1)
 
 returns : tie.Need-returns
-returns c = search needs
+returns c = wake-puts (c .before .before .before .before .next-wake .result .some) (c .before .before .before .before .next-wake .result .at) (c .before .before .before .before .next-wake .ensures) (c .before .before .put-wake .ensures)
 
 pub wake-spec : {M : Type 1} → statement M
-wake-spec = tie.close (tie.spec next-wake-requires put-wake-requires same-length returns)
+wake-spec = tie.close (tie.spec (λ c κs. search needs) put-wake-requires (λ c. search needs) returns)
