@@ -1,9 +1,8 @@
 -- The paths of a link: a path that is refused or not, and a release.
-use mathlib.Core.Path.{_≡_, refl, sym, ap, _∙_, subst}
+use mathlib.Core.Path.{_≡_, refl, sym, _∙_}
 use mathlib.Core.Bool.{Bool, true, false}
 use mathlib.Core.List.{List, [], _∷_}
 use Prim.Native.Nat.{ℕ, _+_, _≤_}
-use native.Mathlib.Nat.{add-zero}
 use native.Mathlib.Omega.{arith}
 use lib.ListN.{length, length-append}
 use Rattle.rules.specs.Base.{if_then_else_, Bytes}
@@ -11,14 +10,14 @@ use Rattle.rules.specs.Data.{Pair, Proven, Table, Output, Result}
 use Rattle.rules.specs.Field.{pairBytes}
 use Rattle.rules.specs.Output.{pairsBytes, outputRecord}
 use Rattle.rules.specs.Links.{path, released, releasing}
-use Rattle.rules.specs.Settle.{withLinks, writes, still, ok, refuse, crowded, addPath, release}
+use Rattle.rules.specs.Settle.{withLinks, writes, crowded, addPath, release}
 use Rattle.laws.specs.Splice.{Wrote}
 use Rattle.node_addr.specs.declared.Pair as pair
 use Rattle.node_addr.specs.View.{viewPair, FitPair}
 use Rattle.output.specs.Lists.{pair-length}
 use Rattle.output.specs.Write.{puts-one}
 use Rattle.state.specs.View.{viewTable, FitTable, Told}
-use Rattle.state.specs.Told.{told-same, told-is}
+use Rattle.state.specs.Told.{told-same}
 use Rattle.steps.specs.Did.{Space, Did, space-is, did-is, space-head}
 
 -- the step of a result on the table t, its outputs apart: the number n, the table t′ after it. A refusal leaves t as it is
@@ -26,9 +25,6 @@ pub record Numbered (t t′ : Bytes) (n : ℕ) (d : Result) : Type 0 where
   pub number : n ≡ d .number
   pub table : Told t′ (d .step .table)
   pub kept : (n ≡ 0 → ⊥) → t′ ≡ t
-
-numbered-is : {t t′ : Bytes} {n : ℕ} {d e : Result} → Numbered t t′ n d → d ≡ e → Numbered t t′ n e
-numbered-is {t} {t′} {n} a e = subst (λ (x : Result). Numbered t t′ n x) e a
 
 -- ---- path
 module _ (n : ℕ) (p : Pair) (v : Proven) {t : Bytes} where

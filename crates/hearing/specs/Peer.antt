@@ -1,5 +1,5 @@
 -- A held peer that restarted, or that was heard: each way of the step.
-use mathlib.Core.Path.{_≡_, sym, _∙_, subst}
+use mathlib.Core.Path.{_≡_, sym, subst}
 use mathlib.Core.Bool.{Bool, true, false}
 use mathlib.Core.Option.{none, some}
 use mathlib.Core.List.{List, [], _∷_}

@@ -29,7 +29,14 @@ pub fn restarted(t: &mut [u8], out: &mut [u8], at: usize, peer: NodeAddr, epoch:
 }
 
 // 10: a frame of a peer came from a pair. A held one is heard, its failures are forgotten, and a differing pair is taken as current.
-pub fn heard(t: &mut [u8], out: &mut [u8], at: usize, peer: NodeAddr, from: Pair, clock: u64) -> usize
+pub fn heard(
+    t: &mut [u8],
+    out: &mut [u8],
+    at: usize,
+    peer: NodeAddr,
+    from: Pair,
+    clock: u64,
+) -> usize
     requires { ⌜ FitTable (now t) ⌝ }
     requires { ⌜ Ascending earlierMemory (viewTable (now t) .gates) ⌝ }
     requires { ⌜ FitPair from ⌝ }
