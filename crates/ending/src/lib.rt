@@ -1,0 +1,2 @@
+// The steps that end a leg or a holder.
+pub mod leg;
