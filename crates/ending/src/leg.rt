@@ -1,5 +1,4 @@
 // The end of a handshake leg.
-use links::record::Closes;
 use node_addr::Found;
 use node_addr::LinkNo;
 use output::list::put_retire;
