@@ -44,10 +44,13 @@ pub part-ready : {t : Bytes} (c : params.Params) (p : Bytes) (h : Held) → Read
     → FitTable t
     × (Ascending earlierMemory (viewTable t .gates)
     × (All (Within (viewParams c)) (viewTable t .gates) × (FitParams c × Room p (viewTable t .gates) (length (viewTable t .gates)))))
-part-ready {t} c p h r q e =
-    (r .fit,
-    (gates-ordered (r .sound),
-    (subst (λ (k : Params). All (Within k) (viewTable t .gates)) (sym q) (gates-within (r .sound)), (fit-params c (r .fit) q, held-memory (r .sound) p h e))))
+part-ready {t} c p h r q e = (
+  r .fit,
+  (
+    gates-ordered (r .sound),
+    (subst (λ (k : Params). All (Within k) (viewTable t .gates)) (sym q) (gates-within (r .sound)), (fit-params c (r .fit) q, held-memory (r .sound) p h e)),
+  ),
+)
 
 module _ (clock : ℕ) (h : Held) where
   -- heard: nothing changes
