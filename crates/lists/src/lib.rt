@@ -1,10 +1,10 @@
 // The outputs with a list of pairs.
-use parts::put_frame;
-use parts::put_pair;
 use links::record::Closes;
 use memory::write::put_be;
 use node_addr::LinkNo;
 use node_addr::Pair;
+use parts::put_frame;
+use parts::put_pair;
 ghost use mathlib.Core.Path.{_≡_};
 ghost use mathlib.Core.List.{[], _∷_};
 ghost use Prim.Native.Nat.{_+_, _≤_, _<_};
