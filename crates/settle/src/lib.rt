@@ -1,7 +1,7 @@
 // The entries: a table is made by `new`, and changed by `call` alone. Both answer every record, whatever its bytes.
 pub mod export;
 
-use input::begin::read_new;
+use begin::read_new;
 use input::read::read_call;
 use start::start;
 use steps::Answer;
