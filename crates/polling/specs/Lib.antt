@@ -1,0 +1,4 @@
+pub mod Loop
+pub mod Poll
+pub mod Close
+pub mod Clear
