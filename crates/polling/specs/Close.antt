@@ -15,16 +15,16 @@ use Rattle.rules.specs.Base.{Bytes, if_then_else_, empty}
 use Rattle.rules.specs.Data.{Pair, LinkRec, Leg, Table, Output, Free}
 use Rattle.rules.specs.Output.{pairsBytes, outputRecord}
 use Rattle.rules.specs.Links.{retired, retiring}
-use Rattle.rules.specs.Settle.{withLinks, withLegs, retireds, retirings}
+use Rattle.rules.specs.Settle.{withLinks, withLegs, retireds, retirings, closeLegs}
 use Rattle.laws.specs.Splice.{splice, splice-none, splice-splice, Wrote}
 use Rattle.links.specs.declared.record.Closes.{Closes}
 use Rattle.links.specs.View.{viewCloses, FitCloses}
 use Rattle.legs.specs.View.{noLeg, legCount}
-use Rattle.output.specs.Write.{Puts}
-use Rattle.output.specs.Lists.{pairs-append, pairs-small, pairs-count}
+use Rattle.output.specs.Write.{Puts, puts-none, puts-one, puts-more}
+use Rattle.output.specs.Lists.{pairs-append, pairs-small, pairs-count, closeHeader, close-written}
 use Rattle.state.specs.View.{legsIn, viewTable, FitTable, Told, nthLeg}
-use Rattle.state.specs.Told.{leg-to}
-use Rattle.steps.specs.Did.{Space, space-place, space-head, wrote-length}
+use Rattle.state.specs.Told.{leg-to, told-then}
+use Rattle.steps.specs.Did.{Space, Did, space-place, space-head, space-first, space-rest, wrote-length}
 use Rattle.polling.specs.Loop.{Writing, writing-start, writing-room, writing-one, writing-end}
 
 -- ---- leases
@@ -227,3 +227,45 @@ module _ {x : Table} {xs : Bytes} {at n : ℕ} {t ys : Bytes} {e count i : ℕ} 
 
     pub retiring-most : count ≤ 160
     retiring-most = omega (arith, a .most, a .few, a .within)
+
+-- ---- the header before the pairs, if there are any
+close-some : (ps : List Pair) → (length ps ≡ 0 → ⊥) → closeOf ps ≡ Output.Close ps ∷ []
+close-some [] h = absurd (h refl)
+close-some (p ∷ ps) h = refl
+
+module _ {xs : Bytes} {at : ℕ} {ps : List Pair} {ys : Bytes} {e n : ℕ} (s : Space xs at (closeOf ps)) (a : Listed xs (at + 5) ps ys e n) where
+  pub nothing-closed : n ≡ 0 → Puts xs at (closeOf ps) ys at
+  nothing-closed q =
+      let z : ps ≡ [] = drop-of-length-le ps {i = 0} (omega (arith, a .count)) in
+      let y : ys ≡ xs = a .is ∙ rw z (splice-none xs (at + 5)) in
+      subst (λ (u : List Pair). Puts xs at (closeOf u) ys at) (sym z) (subst (λ (u : Bytes). Puts xs at [] u at) (sym y) (puts-none xs at (space-place s)))
+
+  module _ (h : n ≡ 0 → ⊥) where
+    pub header-place : (at ≤ e) × (5 ≤ e - at)
+    header-place = (omega (arith, a .end), omega (arith, a .end))
+
+    pub header-room : n ≤ 160 → (n < 256) × ((e - at - 5 + 3 < 65536) × (at + 5 ≤ length ys))
+    header-room q = (omega arith, (omega (arith, a .end, a .most), omega (arith, a .size, space-head (Output.Close ps) (subst (λ (u : List Output). Space xs at u) (close-some ps (λ z. h (a .count ∙ z))) s))))
+
+    pub closed : {zs : Bytes} {k : ℕ} → Wrote ys at 5 (closeHeader n (e - at - 5)) zs k → Puts xs at (closeOf ps) zs e
+    closed {zs} {k} w =
+        let m : ℕ = length (pairsBytes ps) in
+        let g : e - at - 5 ≡ m = omega (arith, a .end) in
+        let l = space-head (Output.Close ps) (subst (λ (u : List Output). Space xs at u) (close-some ps (λ z. h (a .count ∙ z))) s) in
+        let b : Wrote xs (at + 5) m (pairsBytes ps) ys e = record { end = a .end; size = refl; room = omega (arith, l); is = a .is } in
+        subst (λ (u : List Output). Puts xs at u zs e) (sym (close-some ps (λ z. h (a .count ∙ z)))) (puts-one (Output.Close ps) (close-written n ps b (rw g at w) (sym (a .count))))
+
+-- ---- all legs
+module _ {xs : Bytes} {at : ℕ} (x : Table) where
+  pub legs-space : Space xs at ((closeLegs x) .outs) → Space xs at (frees (x .legs))
+  unfolding closeLegs
+  legs-space a = space-first (frees (x .legs)) (closeOf (closing x)) a
+
+  pub links-space : {ys : Bytes} {e : ℕ} → Space xs at ((closeLegs x) .outs) → Puts xs at (frees (x .legs)) ys e → Space ys e (closeOf (closing x))
+  unfolding closeLegs
+  links-space a p = space-rest (closeOf (closing x)) a p
+
+  pub legs-did : {ys : Bytes} {e : ℕ} {t : Bytes} {zs : Bytes} {r : ℕ} {t′ : Bytes} → Puts xs at (frees (x .legs)) ys e → Told t (unlinked x) → Puts ys e (closeOf (closing x)) zs r
+      → Told t′ (withLegs [] (viewTable t)) → Did xs at t′ zs r (closeLegs x)
+  unfolding closeLegs
+  legs-did p a q b = record { table = told-then (withLegs []) a b; puts = puts-more p q }
