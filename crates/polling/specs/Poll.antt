@@ -17,10 +17,10 @@ use Rattle.rules.specs.Std.{Ascending}
 use Rattle.rules.specs.Data.{Leg, Table, Step, Output, Resend}
 use Rattle.rules.specs.Legs.{onLink, overdue, resends}
 use Rattle.rules.specs.Output.{outputRecord}
-use Rattle.rules.specs.Settle.{still, _▸_, legAt, ends, abandon, abandons}
+use Rattle.rules.specs.Settle.{writes, still, _▸_, legAt, ends, abandon, abandons, poll}
 use Rattle.rules.specs.Bounds.{earlierLeg}
 use Rattle.rules.proofs.Lists.{eqb-same}
-use Rattle.rules.proofs.Order.{contra}
+use Rattle.rules.proofs.Order.{contra, length-less}
 use Rattle.laws.specs.Shift.{all-at}
 use Rattle.laws.specs.Splice.{Wrote}
 use Rattle.laws.specs.Scan.{scan}
@@ -29,9 +29,10 @@ use Rattle.legs.specs.At.{Stands, resendDue, pastDeadline}
 use Rattle.legs.specs.View.{noLeg}
 use Rattle.output.specs.Write.{Puts}
 use Rattle.state.specs.View.{viewTable, FitTable, nthLeg}
-use Rattle.state.specs.Told.{leg-small}
-use Rattle.steps.specs.Did.{Space}
-use Rattle.polling.specs.Loop.{Writing, writing-start, writing-room, writing-one, writing-end}
+use Rattle.state.specs.Told.{leg-small, told-same}
+use Rattle.steps.specs.Did.{Space, Did, space-left, space-right, did-then}
+use Rattle.steps.specs.Sound.{sound-ends}
+use Rattle.polling.specs.Loop.{Writing, writing-start, writing-room, writing-one, writing-end, Doing, doing-space, doing-turn, doing-end}
 
 -- ---- what passes a test, by the first that does
 module _ {A : Type 0} (t : A → Bool) where
@@ -151,3 +152,47 @@ module _ (clock : ℕ) (x : Table) where
     pub reaps-first : reaps ≡ ends (nthLeg x i) x ▸ (λ u. abandons (overdue clock (u .legs)) u)
     unfolding overdue abandons abandon ends _▸_
     reaps-first = rw (reaped clock noLeg o (first-of (pastDeadline clock) (x .legs) i e) .1, reaped-leg)
+
+-- ---- the loop that reaps
+module _ (clock : ℕ) {xs : Bytes} {at : ℕ} {whole : Step} {t ys : Bytes} {e : ℕ} (a : Doing xs at whole t ys e (reaps clock (viewTable t))) where
+  pub reap-end : scan (pastDeadline clock) 0 (viewTable t .legs) ≡ none → Did xs at t ys e whole
+  reap-end q = doing-end a (reaps-none clock (viewTable t) q)
+
+  module _ {i : ℕ} (q : scan (pastDeadline clock) 0 (viewTable t .legs) ≡ some i) where
+    found-leg : legAt (nthLeg (viewTable t) i .link) (viewTable t) ≡ some (nthLeg (viewTable t) i)
+    found-leg = reaped-leg clock (viewTable t) (a .ready .sound .shaped .ordered .legs) q
+
+    rest-then : reaps clock (viewTable t) ≡ ends (nthLeg (viewTable t) i) (viewTable t) ▸ (λ u. reaps clock u)
+    rest-then = reaps-first clock (viewTable t) (a .ready .sound .shaped .ordered .legs) q
+
+    pub reap-within : i < length (viewTable t .legs)
+    reap-within = place-within (pastDeadline clock) (viewTable t .legs) i q
+
+    pub reap-space : Space ys e ((ends (nthLeg (viewTable t) i) (viewTable t)) .outs)
+    reap-space = doing-space a (ends (nthLeg (viewTable t) i) (viewTable t)) (λ u. reaps clock u) rest-then
+
+    module _ {t′ zs : Bytes} {k : ℕ} (d : Did ys e t′ zs k (ends (nthLeg (viewTable t) i) (viewTable t))) where
+      pub reap-turn : Doing xs at whole t′ zs k (reaps clock (viewTable t′))
+      reap-turn = doing-turn a (ends (nthLeg (viewTable t) i) (viewTable t)) (λ u. reaps clock u) rest-then (sound-ends (viewTable t) (a .ready .sound) (nthLeg (viewTable t) i) found-leg) d
+
+      pub reap-less : length (viewTable t′ .legs) < length (viewTable t .legs)
+      unfolding ends
+      reap-less =
+          omega (arith, ap (λ (u : Table). length (u .legs)) (d .table .shows), length-less (onLink (nthLeg (viewTable t) i .link)) (viewTable t .legs) (nthLeg (viewTable t) i) found-leg)
+
+-- ---- reaped, then repeated
+abbrev repeats : ℕ → Table → Step
+repeats clock u = writes (resends clock (u .legs)) u
+
+module _ {xs : Bytes} {at : ℕ} (clock : ℕ) (x : Table) where
+  pub poll-first : Space xs at ((poll clock x) .outs) → Space xs at ((reaps clock x) .outs)
+  unfolding poll
+  poll-first a = space-left (reaps clock x) (repeats clock) a
+
+  pub poll-rest : {t ys : Bytes} {e : ℕ} → Space xs at ((poll clock x) .outs) → Did xs at t ys e (reaps clock x) → Space ys e (resends clock (viewTable t .legs))
+  unfolding poll
+  poll-rest a d = space-right (reaps clock x) (repeats clock) a d
+
+  pub poll-did : {t ys : Bytes} {e : ℕ} {zs : Bytes} {r : ℕ} → Did xs at t ys e (reaps clock x) → Puts ys e (resends clock (viewTable t .legs)) zs r → Did xs at t zs r (poll clock x)
+  unfolding poll
+  poll-did d p = did-then (reaps clock x) (repeats clock) d (record { table = told-same (d .table .fit); puts = p })

@@ -1,5 +1,7 @@
 // Close: every leg and every held peer ends.
 use crate::clear::clear_legs;
+use ending::peer::remove_at;
+use output::code::Why;
 use output::list::put_close_header;
 use output::list::put_pairs;
 use output::put::put_free;
@@ -7,6 +9,8 @@ use state::leg::leg_count;
 use state::leg::leg_lease;
 use state::leg::leg_link;
 use state::link::retire_link;
+use state::peer::held_count;
+use state::peer::held_peer;
 ghost use mathlib.Core.List.{map};
 ghost use Prim.Native.Nat.{_+_, _≤_};
 ghost use Rattle.rules.specs.Data.{Free};
@@ -14,6 +18,7 @@ ghost use Rattle.rules.specs.Settle as settle;
 ghost use Rattle.output.specs.Write.{Puts};
 ghost use Rattle.state.specs.View.{viewTable, FitTable, Told};
 ghost use Rattle.steps.specs.Did.{Space, Did};
+ghost use Rattle.steps.specs.Sound.{Ready};
 ghost use Rattle.polling.specs.Close.{closing, closeOf, unlinked, Listed};
 
 // Frees the lease of each leg.
@@ -91,4 +96,29 @@ pub fn close_legs(t: &mut [u8], out: &mut [u8], at: usize) -> usize
     let b = close_links(t, out, a);
     clear_legs(t);
     b
+}
+
+// Every held peer goes, in order.
+pub fn remove_all(t: &mut [u8], out: &mut [u8], at: usize, clock: u64) -> usize
+    requires { ⌜ Ready (now t) ⌝ }
+    requires { ⌜ Space (now out) at ((settle.removes clock (map (λ h. h .peer) (viewTable (now t) .held)) (viewTable (now t))) .outs) ⌝ }
+    ensures { λ r. ⌜ Did (now (out .entry)) at (now (t .exit)) (now (out .exit)) r (settle.removes clock (map (λ h. h .peer) (viewTable (now (t .entry)) .held)) (viewTable (now (t .entry)))) ⌝ }
+{
+    let mut n = held_count(t);
+    let mut e = at;
+    while 0 < n {
+        let p = held_peer(t, 0);
+        e = remove_at(t, out, e, 0, p, Why::Closed, clock);
+        n -= 1;
+    }
+    e
+}
+
+pub fn close(t: &mut [u8], out: &mut [u8], at: usize, clock: u64) -> usize
+    requires { ⌜ Ready (now t) ⌝ }
+    requires { ⌜ Space (now out) at ((settle.close clock (viewTable (now t))) .outs) ⌝ }
+    ensures { λ r. ⌜ Did (now (out .entry)) at (now (t .exit)) (now (out .exit)) r (settle.close clock (viewTable (now (t .entry)))) ⌝ }
+{
+    let a = close_legs(t, out, at);
+    remove_all(t, out, a, clock)
 }
