@@ -1,14 +1,12 @@
--- What close does: leases freed, links retired with one list of what they close, legs gone, peers removed.
+-- Every leg closed: leases freed, links retired with one list of what they close, legs gone.
 use mathlib.Core.Path.{_≡_, refl, sym, ap, _∙_, subst}
-use mathlib.Core.Bool.{Bool, true, false}
-use mathlib.Core.Option.{Option, none, some}
 use mathlib.Core.List.{List, [], _∷_, _++_, map, append-assoc, append-nil}
-use Prim.Native.Nat.{ℕ, suc, _+_, _-_, _*_, _^_, _≤_, _<_}
+use Prim.Native.Nat.{ℕ, _+_, _-_, _*_, _^_, _≤_, _<_}
 use native.Mathlib.Nat.{add-zero}
 use native.Mathlib.Numerals.{add-one}
 use native.Mathlib.Omega.{arith}
 use lib.Seq.{drop-cons}
-use lib.ListN.{length, take, drop, getD, length-append, length-map, List·getD-map, drop-of-length-le}
+use lib.ListN.{length, drop, getD, length-append, length-map, List·getD-map, drop-of-length-le}
 use mir.Syntax.{w64}
 use mir.Val.{Fits}
 use Rattle.rules.specs.Base.{Bytes, if_then_else_, empty}
@@ -31,6 +29,7 @@ use Rattle.polling.specs.Loop.{Writing, writing-start, writing-room, wri
 abbrev pub frees : List Leg → List Output
 frees s = map (λ g. Free (g .lease)) s
 
+-- the loop over the n legs s stands at leg i
 pub record Freeing (xs : Bytes) (at : ℕ) (s : List Leg) (n : ℕ) (ys : Bytes) (e i : ℕ) : Type 0 where
   pub count : n ≡ length s
   pub within : i ≤ n
@@ -166,7 +165,7 @@ module _ {x : Table} {xs : Bytes} {at n : ℕ} {t ys : Bytes} {e count i : ℕ} 
 
     -- the link of leg i retires and closes c
     module _ {l : ℕ} {t′ : Bytes} {c : Closes} (p : l ≡ nthLeg (viewTable t) i .link) (u : Told t′ (withLinks (retired l (viewTable t .links)) (viewTable t)))
-      (f : FitCloses c) (v : viewCloses c ≡ retiring l (viewTable t .links)) where
+        (f : FitCloses c) (v : viewCloses c ≡ retiring l (viewTable t .links)) where
       links-next : drop i (legLinks (x .legs)) ≡ l ∷ drop (i + 1) (legLinks (x .legs))
       links-next =
           drop-cons (legLinks (x .legs)) i (noLeg .link) (rw length-map (omega (arith, a .legs)))

@@ -10,7 +10,7 @@ use Rattle.rules.specs.Settle.{still, _▸_}
 use Rattle.laws.specs.Splice.{Wrote}
 use Rattle.output.specs.Size.{sizeOf}
 use Rattle.output.specs.Write.{Puts, puts-none, puts-then, puts-more}
-use Rattle.state.specs.View.{viewTable, FitTable, Told}
+use Rattle.state.specs.View.{viewTable}
 use Rattle.steps.specs.Did.{Space, Did, space-place, space-head, space-rest, space-left, puts-length}
 use Rattle.steps.specs.Sound.{Sound, Ready, ready-told}
 

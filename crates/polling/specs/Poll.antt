@@ -1,10 +1,9 @@
 -- The legs that poll reaps, and what it repeats: the first of them, and what is left then.
-use mathlib.Core.Path.{_≡_, refl, sym, ap, _∙_, subst}
+use mathlib.Core.Path.{_≡_, refl, ap, _∙_, subst}
 use mathlib.Core.Bool.{Bool, true, false}
-use mathlib.Core.Option.{Option, none, some}
+use mathlib.Core.Option.{none, some}
 use mathlib.Core.List.{List, [], _∷_, map}
 use Prim.Native.Nat.{ℕ, suc, _+_, _-_, _≤_, _<_}
-use native.Mathlib.Numerals.{add-one}
 use native.Mathlib.Omega.{arith}
 use borrow.Author.Tests.{ltb-true, ne-eqb}
 use lib.Dec.{eqb, ltb}
@@ -12,9 +11,9 @@ use lib.Seq.{drop-drop, getD-drop}
 use lib.ListN.{length, take, drop, getD, length-drop}
 use mir.Syntax.{w64}
 use mir.Val.{Fits}
-use Rattle.rules.specs.Base.{Bytes, if_then_else_, option, find, without, keep, All}
+use Rattle.rules.specs.Base.{Bytes, if_then_else_, find, without, keep, All}
 use Rattle.rules.specs.Std.{Ascending}
-use Rattle.rules.specs.Data.{Leg, Table, Step, Output, Resend}
+use Rattle.rules.specs.Data.{Leg, Table, Step, Resend}
 use Rattle.rules.specs.Legs.{onLink, overdue, resends}
 use Rattle.rules.specs.Output.{outputRecord}
 use Rattle.rules.specs.Settle.{writes, still, _▸_, legAt, ends, abandon, abandons, poll}

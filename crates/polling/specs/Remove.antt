@@ -1,23 +1,23 @@
 -- Every held peer removed: the first of them, and what is left then.
-use mathlib.Core.Path.{_≡_, refl, sym, ap, _∙_, subst}
+use mathlib.Core.Path.{_≡_, sym, ap, _∙_}
 use mathlib.Core.Bool.{true}
-use mathlib.Core.Option.{Option, none, some}
-use mathlib.Core.List.{List, [], _∷_, _++_, map}
+use mathlib.Core.Option.{Option, some}
+use mathlib.Core.List.{List, _∷_, map}
 use Prim.Native.Nat.{ℕ, _+_, _-_, _≤_, _<_}
 use native.Mathlib.Omega.{arith}
 use lib.Seq.{drop-cons}
-use lib.ListN.{length, drop, getD, drop-of-length-le}
-use Rattle.rules.specs.Base.{Bytes, if_then_else_, find, without, option, same}
-use Rattle.rules.specs.Data.{Held, Table, Step, Output, Why}
+use lib.ListN.{length, drop, drop-of-length-le}
+use Rattle.rules.specs.Base.{Bytes, find, without, option}
+use Rattle.rules.specs.Data.{Held, Table, Step, Why}
 use Rattle.rules.specs.Settle.{still, _▸_, named, heldAt, removed, remove, removes, closeLegs, close}
 use Rattle.rules.specs.Bounds.{Word}
 use Rattle.rules.proofs.Peers.{same-refl}
 use Rattle.rules.proofs.Order.{length-less}
 use Rattle.held.specs.View.{noHeld}
-use Rattle.state.specs.View.{viewTable, FitTable, Told, nthHeld}
+use Rattle.state.specs.View.{viewTable, nthHeld}
 use Rattle.steps.specs.Did.{Space, Did, space-is, did-is, space-left, space-right, did-then}
 use Rattle.steps.specs.Sound.{Sound, Ready, ready-told, sound-removed, sound-legs}
-use Rattle.polling.specs.Loop.{Doing, doing-start, doing-space, doing-turn, doing-end}
+use Rattle.polling.specs.Loop.{Doing, doing-space, doing-turn, doing-end}
 
 module _ (clock : ℕ) (x : Table) where
   -- the peers that are held, one after another

@@ -45,6 +45,7 @@ struct Row {
 }
 
 // Retires the link of each leg, and writes what is to close behind the 5 bytes of a header.
+// The place behind these may be past the end of the buffer where nothing is to close.
 fn retire_links(t: &mut [u8], out: &mut [u8], at: usize) -> Row
     requires { ⌜ FitTable (now t) ⌝ }
     requires { ⌜ Space (now out) at (closeOf (closing (viewTable (now t)))) ⌝ }
@@ -66,7 +67,10 @@ fn retire_links(t: &mut [u8], out: &mut [u8], at: usize) -> Row
             count += k;
         }
     }
-    Row { count: count, end: e }
+    Row {
+        count: count,
+        end: e,
+    }
 }
 
 // Retires the link of each leg; one Close lists what is to close, if anything is.

@@ -2,7 +2,6 @@
 use mathlib.Core.Path.{sym, _∙_}
 use Rattle.steps.specs.Did.{puts-length}
 use Rattle.polling.specs.Close.{legs-space, links-space, legs-did}
-use borrow.Author.Needs.{needs}
 use Rattle.polling.proofs.close.close_legs.Statement.{statement}
 use Rattle.polling.proofs.close.close_legs.Tie as tie
 
