@@ -1,1 +1,2 @@
 pub mod Install
+pub mod Dialed
