@@ -1,2 +1,3 @@
 pub mod Install
 pub mod Dialed
+pub mod Sent
