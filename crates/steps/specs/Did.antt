@@ -25,10 +25,10 @@ pub record Did (o : Bytes) (at : ℕ) (t o′ : Bytes) (r : ℕ) (s : Step) : Ty
   pub puts : Puts o at (s .outs) o′ r
 
 -- a step that may be refused, on the table t: then not a byte has changed
-pub record Ruled (t o : Bytes) (at : ℕ) (t′ o′ : Bytes) (number r : ℕ) (d : Result) : Type 0 where
-  pub number : number ≡ d .number
+pub record Ruled (t o : Bytes) (at : ℕ) (t′ o′ : Bytes) (n r : ℕ) (d : Result) : Type 0 where
+  pub number : n ≡ d .number
   pub did : Did o at t′ o′ r (d .step)
-  pub kept : (number ≡ 0 → ⊥) → (t′ ≡ t) × (o′ ≡ o)
+  pub kept : (n ≡ 0 → ⊥) → (t′ ≡ t) × (o′ ≡ o)
 
 -- ---- by another name
 
@@ -75,11 +75,11 @@ wrote-length {o} {at} {bs = bs} w = ap length (w .is) ∙ length-splice o at bs 
 
 -- ---- lists of outputs one after another
 
-pub space-first : {o : Bytes} {at : ℕ} {s u : List Output} → Space o at (s ++ u) → Space o at s
-space-first {s = s} {u} a = record { room = omega (arith, a .room, ap length (outputs-append s u), length-append (outputs s) (outputs u)) }
+pub space-first : {o : Bytes} {at : ℕ} (s u : List Output) → Space o at (s ++ u) → Space o at s
+space-first s u a = record { room = omega (arith, a .room, ap length (outputs-append s u), length-append (outputs s) (outputs u)) }
 
-pub space-rest : {o : Bytes} {at : ℕ} {s u : List Output} {o′ : Bytes} {r : ℕ} → Space o at (s ++ u) → Puts o at s o′ r → Space o′ r u
-space-rest {s = s} {u} a p =
+pub space-rest : {o : Bytes} {at : ℕ} {s : List Output} {o′ : Bytes} {r : ℕ} (u : List Output) → Space o at (s ++ u) → Puts o at s o′ r → Space o′ r u
+space-rest {s = s} u a p =
     record { room = omega (arith, a .room, puts-length p, ap length (outputs-append s u), length-append (outputs s) (outputs u), p .wrote .end) }
 
 -- ---- steps
@@ -91,11 +91,11 @@ did-still f a = record { table = told-same f; puts = puts-end a }
 -- the first of two steps, and room for the second
 pub space-left : {o : Bytes} {at : ℕ} (s : Step) (f : Table → Step) → Space o at ((s ▸ f) .outs) → Space o at (s .outs)
 unfolding _▸_
-space-left s f a = space-first a
+space-left s f a = space-first (s .outs) ((f (s .table)) .outs) a
 
 pub space-right : {o : Bytes} {at : ℕ} {t o′ : Bytes} {r : ℕ} (s : Step) (f : Table → Step) → Space o at ((s ▸ f) .outs) → Did o at t o′ r s → Space o′ r ((f (viewTable t)) .outs)
 unfolding _▸_
-space-right {o′ = o′} {r} s f a d = subst (λ (x : Table). Space o′ r ((f x) .outs)) (sym (d .table .shows)) (space-rest a (d .puts))
+space-right {o′ = o′} {r} s f a d = subst (λ (x : Table). Space o′ r ((f x) .outs)) (sym (d .table .shows)) (space-rest ((f (s .table)) .outs) a (d .puts))
 
 -- the one, then the other on its table
 pub did-then : {o : Bytes} {at : ℕ} {t₁ o₁ : Bytes} {k : ℕ} {t₂ o₂ : Bytes} {r : ℕ} (s : Step) (f : Table → Step)
