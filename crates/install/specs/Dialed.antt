@@ -1,21 +1,20 @@
 -- A dial is complete: the peer is held, or the holder moves. What was written and what the table shows make the step.
-use mathlib.Core.Path.{_≡_, refl, sym, ap, _∙_, subst}
-use mathlib.Core.Bool.{true, false}
-use mathlib.Core.Option.{none, some}
+use mathlib.Core.Path.{_≡_, sym, ap, _∙_}
+use mathlib.Core.Bool.{true}
+use mathlib.Core.Option.{none}
 use mathlib.Core.List.{List, [], _∷_}
-use Prim.Native.Nat.{ℕ, _+_, _≤_, _<_}
+use Prim.Native.Nat.{ℕ, _+_, _≤_}
 use native.Mathlib.Omega.{arith}
 use lib.ListN.{length}
 use Rattle.rules.specs.Base.{Bytes, alter}
-use Rattle.rules.specs.Data.{Pair, APeer, LinkRec, Leg, Held, Table, Transition, Move, Fresh, FromCarry, Installed, Output, Install, Reset, Retire, Step}
+use Rattle.rules.specs.Data.{Pair, APeer, LinkRec, Leg, Held, Table, Transition, Move, Fresh, FromCarry, Installed, Output, Install, Reset, Retire}
 use Rattle.rules.specs.Links.{hold, retired, retiring}
 use Rattle.rules.specs.Output.{pairsBytes, outputRecord}
-use Rattle.rules.specs.Settle.{withLinks, withLegs, withHeld, writes, dropLeg, named, installs, dialed, movedTo, moveto}
+use Rattle.rules.specs.Settle.{withLinks, withHeld, writes, dropLeg, named, dialed, movedTo, moveto}
 use Rattle.laws.specs.Splice.{Wrote}
-use Rattle.output.specs.Size.{sizeOf}
-use Rattle.output.specs.Write.{Puts, puts-one}
-use Rattle.state.specs.View.{viewTable, FitTable, Told}
-use Rattle.state.specs.Told.{told-is, told-then}
+use Rattle.output.specs.Write.{puts-one}
+use Rattle.state.specs.View.{viewTable, Told}
+use Rattle.state.specs.Told.{told-then}
 use Rattle.steps.specs.Did.{Space, Did, space-is, did-is, space-head, space-tail, puts-cons}
 use Rattle.install.specs.Install.{seated}
 

@@ -1,17 +1,15 @@
 -- A leg becomes a holder: what the table shows then, and the outputs that say so.
-use mathlib.Core.Path.{_≡_, refl, sym, ap, _∙_, subst}
-use mathlib.Core.Bool.{true, false}
-use mathlib.Core.Option.{Option, none, some}
-use mathlib.Core.List.{List, [], _∷_}
-use Prim.Native.Nat.{ℕ, _+_, _≤_, _<_}
-use native.Mathlib.Omega.{arith}
-use lib.ListN.{length, set, getD}
-use Rattle.rules.specs.Base.{Bytes, find, alter}
+use mathlib.Core.Path.{_≡_, sym, ap, subst}
+use mathlib.Core.Option.{none, some}
+use mathlib.Core.List.{List}
+use Prim.Native.Nat.{ℕ, _<_}
+use lib.ListN.{length, set}
+use Rattle.rules.specs.Base.{Bytes}
 use Rattle.rules.specs.Std.{insert}
-use Rattle.rules.specs.Data.{Pair, APeer, LinkRec, Leg, Held, Table}
+use Rattle.rules.specs.Data.{APeer, Leg, Held, Table}
 use Rattle.rules.specs.Links.{hold}
 use Rattle.rules.specs.Legs.{onLink, markUnsent}
-use Rattle.rules.specs.Settle.{withLinks, withLegs, withHeld, withGates, still, dropLeg, earlierHeld, installs, unsent}
+use Rattle.rules.specs.Settle.{withLinks, withLegs, withHeld, dropLeg, earlierHeld, unsent}
 use Rattle.laws.specs.Scan.{scan}
 use Rattle.laws.specs.Place.{alter-at, alter-nowhere}
 use Rattle.legs.specs.View.{noLeg}

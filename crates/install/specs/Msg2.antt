@@ -1,8 +1,8 @@
 -- A msg2, by what its leg and the holder of its peer are.
-use mathlib.Core.Path.{_≡_, refl, sym, ap, _∙_, subst}
+use mathlib.Core.Path.{_≡_, sym, ap, _∙_, subst}
 use mathlib.Core.Bool.{Bool, true, false, _||_}
-use mathlib.Core.Option.{Option, none, some}
-use mathlib.Core.List.{List, [], _∷_}
+use mathlib.Core.Option.{none, some}
+use mathlib.Core.List.{[], _∷_}
 use Prim.Native.Nat.{ℕ, _+_, _≤_, _<_}
 use native.Mathlib.Omega.{arith}
 use lib.Dec.{eqb}
@@ -22,7 +22,7 @@ use Rattle.legs.specs.View.{noLeg}
 use Rattle.legs.specs.At.{there, absent, noAnswer, namedPeer}
 use Rattle.held.specs.View.{noHeld}
 use Rattle.output.specs.Write.{puts-one}
-use Rattle.state.specs.View.{viewTable, FitTable, Told, nthLeg, nthHeld}
+use Rattle.state.specs.View.{viewTable, FitTable, nthLeg, nthHeld}
 use Rattle.state.specs.Told.{told-same}
 use Rattle.steps.specs.Did.{Space, Did, space-is, did-is, did-still, space-left, space-right, did-then}
 use Rattle.steps.specs.Sound.{Sound, owners, links-most, held-room}

@@ -1,13 +1,13 @@
 -- What was sent: a resend counted, an answer marked, or a peer held by an answer.
 use mathlib.Core.Path.{_≡_, refl, sym, ap, _∙_, subst}
 use mathlib.Core.Bool.{Bool, true, false}
-use mathlib.Core.Option.{Option, none, some}
+use mathlib.Core.Option.{none, some}
 use mathlib.Core.List.{List, [], _∷_}
 use Prim.Native.Nat.{ℕ, _+_, _≤_, _<_}
 use lib.ListN.{length, set, replicate}
 use Rattle.rules.specs.Base.{if_then_else_, is, Bytes, alter}
 use Rattle.rules.specs.Time.{Params}
-use Rattle.rules.specs.Data.{Pair, LinkRec, Answered, Leg, Held, Memory, Table, Transition, Promote, Replace, Fresh, Installed, Output, Install, Reset, Step}
+use Rattle.rules.specs.Data.{Pair, LinkRec, Leg, Held, Memory, Table, Transition, Promote, Replace, Fresh, Installed, Install, Reset, Step}
 use Rattle.rules.specs.Links.{numbered}
 use Rattle.rules.specs.Legs.{onLink, answered, answers, resent, markSent}
 use Rattle.rules.specs.Gates.{memory, store, promoted}
@@ -33,7 +33,7 @@ use Rattle.output.specs.Write.{puts-one}
 use Rattle.state.specs.View.{viewTable, FitTable, Told, nthLeg, nthLink}
 use Rattle.state.specs.Told.{told-is, told-then}
 use Rattle.steps.specs.Did.{Space, Did, space-is, did-is, space-tail, puts-cons, puts-end, did-still}
-use Rattle.steps.specs.Sound.{Sound, Ready, leg-memory, held-room}
+use Rattle.steps.specs.Sound.{Sound, leg-memory, held-room}
 use Rattle.install.specs.Install.{seated}
 use Rattle.install.specs.Dialed.{install-fits, reset-fits}
 

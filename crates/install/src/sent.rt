@@ -88,14 +88,7 @@ fn unheard(t: &[u8], i: usize, j: usize, clock: u64) -> Held
 }
 
 // The i-th leg's answer to the peer that it names was sent: the peer is held, unheard, on the j-th link.
-pub fn promote(
-    t: &mut [u8],
-    out: &mut [u8],
-    at: usize,
-    i: usize,
-    j: usize,
-    clock: u64,
-) -> usize
+pub fn promote(t: &mut [u8], out: &mut [u8], at: usize, i: usize, j: usize, clock: u64) -> usize
     requires { ⌜ Ready (now t) ⌝ }
     requires { ⌜ i < length (viewTable (now t) .legs) ⌝ }
     requires { ⌜ rule.legAt (nthLeg (viewTable (now t)) i .link) (viewTable (now t)) ≡ some (nthLeg (viewTable (now t)) i) ⌝ }
@@ -121,14 +114,7 @@ pub fn promote(
 }
 
 // The i-th leg's answer, on link n, was sent.
-fn answer_sent(
-    t: &mut [u8],
-    out: &mut [u8],
-    at: usize,
-    i: usize,
-    n: LinkNo,
-    clock: u64,
-) -> usize
+fn answer_sent(t: &mut [u8], out: &mut [u8], at: usize, i: usize, n: LinkNo, clock: u64) -> usize
     requires { ⌜ Ready (now t) ⌝ }
     requires { ⌜ scan (leg.onLink (n .0)) 0 (viewTable (now t) .legs) ≡ some i ⌝ }
     requires { ⌜ leg.answers (nthLeg (viewTable (now t)) i) ≡ true ⌝ }

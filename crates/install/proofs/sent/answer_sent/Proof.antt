@@ -28,9 +28,8 @@ promote-requires c κs =
     let p = c .before .before .before .before .before .before .before .before .before .before .before .before .before .before .before .before .before .before .pre in
     let f = on (c .before .before .before .before .before .before .before .before .before .before .before .before .before .before .leg-named .ensures) (c .before .before .before .before .before .before .before .before .before .before .before .before .before .if1 .left) in
     let l = finds-at (c .before .before .before .before .before .find-link .ensures) (c .before .before .before .j .given .1) in
-    (p .0, (place-within _ _ _ (p .1 .0), (leg-own _ _ _ (p .1 .0), (f, (place-within _ _ _ l, space-is (p .1 .1 .1) (
-    sent-promotes _ _ _ (p .1 .1 .1) _ (p .1 .0) (p .1 .1 .0) f (c .before .before .before .before .before .before .before .before .before .before .before .leg-peer .ensures) (finds-none (c .before .before .before .before .before .before .before .before .before .find-held .ensures) (c .before .before .before .before .before .before .before .enum-told .given .1)) _ l
-    ))))))
+    let e = sent-promotes _ _ _ (p .1 .1 .1) _ (p .1 .0) (p .1 .1 .0) f (c .before .before .before .before .before .before .before .before .before .before .before .leg-peer .ensures) (finds-none (c .before .before .before .before .before .before .before .before .before .find-held .ensures) (c .before .before .before .before .before .before .before .enum-told .given .1)) _ l in
+    (p .0, (place-within _ _ _ (p .1 .0), (leg-own _ _ _ (p .1 .0), (f, (place-within _ _ _ l, space-is (p .1 .1 .1) e)))))
 
 returns-4 : tie.Need-returns-4
 returns-4 c =
