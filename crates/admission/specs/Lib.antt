@@ -1,0 +1,4 @@
+pub mod Put
+pub mod Arrived
+pub mod Ruling
+pub mod Answer
