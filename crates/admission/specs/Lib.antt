@@ -2,3 +2,7 @@ pub mod Put
 pub mod Arrived
 pub mod Ruling
 pub mod Answer
+pub mod Displace
+pub mod Admit
+pub mod Msg1
+pub mod Stub

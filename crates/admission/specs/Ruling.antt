@@ -18,6 +18,7 @@ use Rattle.memories.specs.declared.Liveness.{Liveness}
 use Rattle.memories.specs.declared.Verdict.{Verdict}
 use Rattle.memories.specs.declared.Verdict.the-variants as verdict
 use Rattle.memories.specs.declared.Refusal.{Refusal}
+use Rattle.memories.specs.declared.Denial.{Denial}
 use Rattle.memories.specs.View.{optional, sourceOf, refusalOf, denialOf, refusedBy, viewLiveness, asking}
 use Rattle.memories.specs.Judge.{Alike, gate-alike}
 use Rattle.held.specs.View.{noHeld, lastHeard}
@@ -72,3 +73,10 @@ module _ (x : rule.Table) {b : Bool} (e : b ≡ full x) (now : ℕ) (k : Source)
     pub denied-refuse : (v : Verdict) (d : Digest) (n : ℕ) → d .0 ≡ y .ephemeral → n ≡ y .epoch → refusedBy v ≡ gate c now (asking k l d n) (memory (y .peer) (x .gates))
         → (r : Refusal) → v ≡ verdict.Refuse r → some (rule.Gate (refusalOf r)) ≡ denied now (sourceOf k) y x
     denied-refuse v d n g h j r w = rw w at (by-gate v d n g h j)
+
+-- ---- what a ruling tells
+pub admits : {r : Ruling} {o : Option rule.Denial} → r ≡ ruling.Admit → deniedBy r ≡ o → none ≡ o
+admits e q = rw e at q
+
+pub denies : {r : Ruling} {o : Option rule.Denial} {why : Denial} → r ≡ ruling.Deny why → deniedBy r ≡ o → some (denialOf why) ≡ o
+denies e q = rw e at q

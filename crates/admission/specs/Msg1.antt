@@ -1,0 +1,39 @@
+-- What `msg1` comes to.
+use mathlib.Core.Path.{_≡_, refl, sym, ap, _∙_}
+use mathlib.Core.Bool.{Bool, true, false}
+use mathlib.Core.Option.{Option, none, some}
+use mathlib.Core.List.{List, [], _∷_}
+use Prim.Native.Nat.{ℕ, _-_, _^_}
+use borrow.Author.Tests.{eq-eqb, ne-eqb}
+use lib.Dec.{eqb}
+use Rattle.rules.specs.Base.{Bytes}
+use Rattle.rules.specs.Data.{Held, Table, Hello, Source, Call, Output, Free, Rekey, Result}
+use Rattle.rules.specs.Settle.{writes, ok, heldAt, stored, attributed, admit, msg1, numbering, step}
+
+module _ (now : ℕ) (y : Hello) (reachable : Bool) (x : Table) where
+  pub msg1-stored : {n : ℕ} {m : Bytes} → stored (y .from) (y .bytes) x ≡ some (record { link = n; msg2 = m })
+      → msg1 now y reachable x ≡ ok (writes (Output.Answer n true m ∷ Free (y .lease) ∷ []) x)
+  unfolding msg1
+  msg1-stored e = rw e
+
+  module _ (e : stored (y .from) (y .bytes) x ≡ none) where
+    pub msg1-new : heldAt (y .peer) x ≡ none → msg1 now y reachable x ≡ admit now Source.NotHeld y x
+    unfolding msg1
+    msg1-new q = rw (e, q)
+
+    module _ {h : Held} (q : heldAt (y .peer) x ≡ some h) {n : ℕ} (v : n ≡ h .epoch) where
+      pub msg1-restart : (n ≡ y .epoch → ⊥) → msg1 now y reachable x ≡ admit now Source.Restart y x
+      unfolding msg1
+      msg1-restart d = rw (e, q, ← v, ne-eqb n (y .epoch) d)
+
+      pub msg1-rekey : n ≡ y .epoch → msg1 now y reachable x ≡ ok (writes (Rekey (y .peer) (attributed h (y .from) x) reachable ∷ Free (y .lease) ∷ []) x)
+      unfolding msg1
+      msg1-rekey d = rw (e, q, ← v, eq-eqb n (y .epoch) d)
+
+  pub step-msg1 : step now (Call.Msg1 y reachable) x ≡ numbering x (msg1 now y reachable x)
+  unfolding step
+  step-msg1 = refl
+
+pub step-replacement : (now : ℕ) (y : Hello) (x : Table) → step now (Call.Replacement y) x ≡ numbering x (admit now Source.Replacement y x)
+unfolding step
+step-replacement now y x = refl
