@@ -5,4 +5,3 @@ pub mod Answer
 pub mod Displace
 pub mod Admit
 pub mod Msg1
-pub mod Stub

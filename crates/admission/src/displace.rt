@@ -1,6 +1,6 @@
 // A held peer whose msg1 is admitted: its holder goes, and the msg1 is answered.
 use crate::answer::answer;
-use crate::stub::remove_at;
+use ending::peer::remove_at;
 use input::call::Call;
 use memories::Source;
 use node_addr::NodeAddr;

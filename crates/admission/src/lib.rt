@@ -6,4 +6,3 @@ pub mod displace;
 pub mod msg1;
 pub mod put;
 pub mod ruling;
-pub mod stub;

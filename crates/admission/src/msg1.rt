@@ -1,12 +1,12 @@
 // The calls of a msg1: one that came before is answered as then, one of the same session is a rekey, any other asks to be admitted.
 use crate::admit::admit;
 use crate::put::put_msg2;
-use crate::stub::exhausted;
 use input::call::Call;
 use memories::Source;
 use node_addr::Found;
 use output::put::put_free;
 use output::put::put_rekey;
+use places::exhausted;
 use state::ask::attributed;
 use state::ask::stored;
 use state::peer::find_held;

@@ -2,7 +2,7 @@
 use mathlib.Core.Path.{refl, sym, _∙_}
 use Rattle.steps.specs.Sound.{legs-room}
 use Rattle.steps.specs.Did.{space-place, space-result, puts-length, ruled-ok, ruled-refused, ruled-is}
-use Rattle.admission.specs.Stub.{entering-passed, entering-refused}
+use Rattle.places.specs.Enter.{entering-passed, entering-refused}
 use borrow.Author.Needs.{needs}
 use Rattle.admission.proofs.admit.enter.Statement.{statement}
 use Rattle.admission.proofs.admit.enter.Tie as tie

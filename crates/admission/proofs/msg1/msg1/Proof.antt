@@ -2,7 +2,7 @@
 use mathlib.Core.Path.{refl, sym, _∙_}
 use Rattle.input.specs.Call.{helloOf}
 use Rattle.steps.specs.Did.{space-place, space-result, puts-length, ruled-refused, ruled-is}
-use Rattle.admission.specs.Stub.{numbering-refused, numbering-passed, next-room}
+use Rattle.places.specs.Enter.{numbering-refused, numbering-passed, next-room}
 use Rattle.admission.specs.Msg1.{step-msg1}
 use Rattle.admission.proofs.msg1.msg1.Statement.{statement}
 use Rattle.admission.proofs.msg1.msg1.Tie as tie
