@@ -1,13 +1,13 @@
 -- What `arrived` comes to.
-use mathlib.Core.Path.{_≡_, refl, sym, ap, _∙_}
+use mathlib.Core.Path.{_≡_, sym, _∙_}
 use mathlib.Core.Bool.{Bool, true, false}
-use mathlib.Core.Option.{Option, none, some}
+use mathlib.Core.Option.{none, some}
 use mathlib.Core.List.{List, [], _∷_}
-use Prim.Native.Nat.{ℕ, _+_, _≤_, _<_}
+use Prim.Native.Nat.{ℕ, _+_, _≤_}
 use lib.ListN.{length}
 use Rattle.rules.specs.Base.{Bytes, if_then_else_}
-use Rattle.rules.specs.Data.{Pair, Table, Full, Output, Reject, Step}
-use Rattle.rules.specs.Settle.{writes, Stored, stored, full, arrived}
+use Rattle.rules.specs.Data.{Pair, Table, Full, Output, Reject}
+use Rattle.rules.specs.Settle.{writes, stored, full, arrived}
 use Rattle.rules.specs.Output.{outputRecord}
 use Rattle.laws.specs.Splice.{Wrote}
 use Rattle.output.specs.Write.{Puts, puts-one}

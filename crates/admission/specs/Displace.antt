@@ -1,13 +1,13 @@
 -- A heard holder stamped; a holder that goes and leaves room for an answer.
-use mathlib.Core.Path.{_≡_, refl, sym, ap, _∙_, subst}
+use mathlib.Core.Path.{_≡_, sym, ap, _∙_}
 use mathlib.Core.Bool.{Bool, true, false}
-use mathlib.Core.Option.{Option, none, some}
+use mathlib.Core.Option.{some}
 use mathlib.Core.List.{List}
-use Prim.Native.Nat.{ℕ, _+_, _≤_, _<_, _^_}
+use Prim.Native.Nat.{ℕ, _+_, _<_}
 use native.Mathlib.Omega.{arith}
 use lib.ListN.{length, getD}
-use Rattle.rules.specs.Base.{if_then_else_, Bytes, same, find}
-use Rattle.rules.specs.Data.{Held, Table, Step, Why}
+use Rattle.rules.specs.Base.{Bytes}
+use Rattle.rules.specs.Data.{Held, Table, Why}
 use Rattle.rules.specs.Gates.{memory, store, stamped}
 use Rattle.rules.specs.Settle.{withGates, named, heldAt, removed, stamp}
 use Rattle.rules.specs.Bounds.{Word}
@@ -15,8 +15,7 @@ use Rattle.rules.proofs.Lists.{find-test}
 use Rattle.rules.proofs.Peers.{same-sound}
 use Rattle.rules.proofs.Order.{length-less}
 use Rattle.held.specs.View.{noHeld}
-use Rattle.state.specs.View.{viewTable, FitTable, Told, nthHeld}
-use Rattle.state.specs.Told.{told-same, told-is}
+use Rattle.state.specs.View.{viewTable, Told, nthHeld}
 use Rattle.steps.specs.Did.{Did}
 use Rattle.steps.specs.Sound.{Sound, Ready, ready-told, sound-stamp, sound-removed, owners, links-most}
 

@@ -3,5 +3,3 @@ pub mod Arrived
 pub mod Ruling
 pub mod Answer
 pub mod Displace
-pub mod Admit
-pub mod Msg1

@@ -1,13 +1,13 @@
 -- A msg2 that stands in the table, written as an Answer; a Reject; the msg2 that a search yields.
-use mathlib.Core.Path.{_≡_, refl, sym, ap, _∙_}
-use mathlib.Core.Bool.{Bool, true, false}
+use mathlib.Core.Path.{_≡_, ap, _∙_}
+use mathlib.Core.Bool.{Bool}
 use mathlib.Core.Option.{Option, none, some}
-use mathlib.Core.List.{List, [], _∷_}
+use mathlib.Core.List.{[], _∷_}
 use Prim.Native.Nat.{ℕ, _+_, _≤_, _<_}
 use native.Mathlib.Omega.{arith}
 use lib.ListN.{length, take, drop}
 use Rattle.rules.specs.Base.{Bytes}
-use Rattle.rules.specs.Data.{Table, Source, Denial, Output, Rekey, Free, Reject}
+use Rattle.rules.specs.Data.{Table, Source, Denial, Output, Free, Reject}
 use Rattle.rules.specs.Settle.{Stored}
 use Rattle.rules.specs.Output.{outputRecord}
 use Rattle.laws.specs.Splice.{Wrote}
@@ -50,15 +50,3 @@ module _ {r : Found} {x : Table} {o : Option Stored} (y : Yields r x o) where
 
   pub yields-none : r ≡ foundv.Nothing → o ≡ none
   yields-none e = y .is ∙ ap (λ (q : Found). storedAt q x) e
-
--- ---- a Rekey of a peer, and Free
-module _ {p : Bytes} {k b : Bool} (e : b ≡ k) {f : Bool} {lease : ℕ} where
-  pub rekey-room : {o : Bytes} {at : ℕ} → length p ≡ 16 → Space o at (Rekey p k f ∷ Free lease ∷ []) → at + 22 ≤ length o
-  rekey-room l a = omega (arith, l, space-head (Rekey p k f) a)
-
-  pub rekey-free : {o : Bytes} {at : ℕ} {o₁ : Bytes} {r : ℕ} → Space o at (Rekey p k f ∷ Free lease ∷ []) → Wrote o at 22 (outputRecord (Rekey p b f)) o₁ r → r + 8 ≤ length o₁
-  rekey-free a w = space-head (Free lease) (space-tail (Rekey p k f) a (rw e at w))
-
-  pub rekey-puts : {o : Bytes} {at : ℕ} {o₁ : Bytes} {n : ℕ} {o₂ : Bytes} {r : ℕ} → Wrote o at 22 (outputRecord (Rekey p b f)) o₁ n → Wrote o₁ n 8 (outputRecord (Free lease)) o₂ r
-      → Puts o at (Rekey p k f ∷ Free lease ∷ []) o₂ r
-  rekey-puts w v = puts-cons (Rekey p k f) (rw e at w) (puts-one _ v)

@@ -1,14 +1,14 @@
 -- The ruling on a msg1: what it denies for, and what the places found say of it.
-use mathlib.Core.Path.{_≡_, refl, sym, ap, _∙_, subst}
+use mathlib.Core.Path.{_≡_, refl, sym, ap, _∙_}
 use mathlib.Core.Bool.{Bool, true, false}
 use mathlib.Core.Option.{Option, none, some}
-use mathlib.Core.List.{List, [], _∷_}
+use mathlib.Core.List.{List}
 use Prim.Native.Nat.{ℕ}
 use lib.ListN.{getD}
-use Rattle.rules.specs.Base.{Bytes, if_then_else_, option, is, find}
+use Rattle.rules.specs.Base.{Bytes, option, is, find}
 use Rattle.rules.specs.Time.{Params}
 use Rattle.rules.specs.Data as rule
-use Rattle.rules.specs.Gates.{Ask, gate, memory}
+use Rattle.rules.specs.Gates.{gate, memory}
 use Rattle.rules.specs.Settle.{named, heldAt, full, denied}
 use Rattle.laws.specs.Scan.{scan}
 use Rattle.laws.specs.Place.{find-at, find-nowhere}

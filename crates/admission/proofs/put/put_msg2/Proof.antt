@@ -1,7 +1,6 @@
 -- `admission::put::put_msg2` meets its contract.
 use Rattle.steps.specs.Did.{wrote-length}
 use Rattle.admission.specs.Put.{answer-room, answer-wrote}
-use borrow.Author.Needs.{needs}
 use Rattle.admission.proofs.put.put_msg2.Statement.{statement}
 use Rattle.admission.proofs.put.put_msg2.Tie as tie
 

@@ -1,9 +1,9 @@
 // A msg1 that was read and verified: rejected, refused, or answered.
-use crate::answer::answer;
-use crate::displace::displace;
-use crate::put::reject;
-use crate::ruling::Ruling;
-use crate::ruling::denied;
+use admission::answer::answer;
+use admission::displace::displace;
+use admission::put::reject;
+use admission::ruling::Ruling;
+use admission::ruling::denied;
 use input::call::Call;
 use memories::Source;
 use node_addr::Found;

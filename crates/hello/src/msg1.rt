@@ -1,6 +1,6 @@
 // The calls of a msg1: one that came before is answered as then, one of the same session is a rekey, any other asks to be admitted.
 use crate::admit::admit;
-use crate::put::put_msg2;
+use admission::put::put_msg2;
 use input::call::Call;
 use memories::Source;
 use node_addr::Found;

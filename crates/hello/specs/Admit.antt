@@ -1,13 +1,11 @@
 -- What `admit` comes to: refused, rejected, answered.
-use mathlib.Core.Path.{_≡_, refl, sym, ap, _∙_}
-use mathlib.Core.Bool.{Bool, true, false}
-use mathlib.Core.Option.{Option, none, some}
+use mathlib.Core.Path.{_≡_}
+use mathlib.Core.Bool.{true, false}
+use mathlib.Core.Option.{none, some}
 use mathlib.Core.List.{List, [], _∷_}
-use Prim.Native.Nat.{ℕ, _<_}
-use lib.ListN.{length}
-use Rattle.rules.specs.Base.{Bytes, option}
-use Rattle.rules.specs.Data.{Held, Table, Hello, Source, Denial, Output, Free, Reject, Result}
-use Rattle.rules.specs.Settle.{writes, ok, heldAt, asked, displaces, denied, answer, stamp, removed, _▸_, entering, admitted, admit}
+use Prim.Native.Nat.{ℕ}
+use Rattle.rules.specs.Data.{Held, Table, Hello, Source, Denial, Output, Free, Reject}
+use Rattle.rules.specs.Settle.{writes, ok, heldAt, displaces, denied, answer, stamp, removed, _▸_, entering, admitted, admit}
 
 -- the Reject of a hello, and Free
 abbrev pub rejected : Source → Hello → Denial → List Output
