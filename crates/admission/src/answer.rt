@@ -37,7 +37,18 @@ pub fn answer(t: &mut [u8], out: &mut [u8], at: usize, h: Call, replaces: bool, 
     let digest = h.digest;
     let epoch = h.epoch;
     let lease = h.lease;
-    let leg = answer_leg(c, clock, LinkNo(n), peer, msg1, digest, epoch, msg2, lease, replaces);
+    let leg = answer_leg(
+        c,
+        clock,
+        LinkNo(n),
+        peer,
+        msg1,
+        digest,
+        epoch,
+        msg2,
+        lease,
+        replaces,
+    );
     join(t, pair, Dir::Inbound, leg);
     let k = leg_count(t);
     put_msg2(t, out, at, k - 1, false)

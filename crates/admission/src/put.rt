@@ -36,7 +36,14 @@ pub fn put_msg2(t: &[u8], out: &mut [u8], at: usize, i: usize, stored: bool) -> 
 }
 
 // A msg1 is rejected, and its lease freed.
-pub fn reject(out: &mut [u8], at: usize, peer: NodeAddr, source: Source, why: Denial, lease: u32) -> usize
+pub fn reject(
+    out: &mut [u8],
+    at: usize,
+    peer: NodeAddr,
+    source: Source,
+    why: Denial,
+    lease: u32,
+) -> usize
     requires { ⌜ Space (now out) at (Reject (some (peer .0, sourceOf source)) (denialOf why) ∷ Free lease ∷ []) ⌝ }
     ensures { λ r. ⌜ Puts (now (out .entry)) at (Reject (some (peer .0, sourceOf source)) (denialOf why) ∷ Free lease ∷ []) (now (out .exit)) r ⌝ }
 {

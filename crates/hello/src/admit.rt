@@ -41,7 +41,10 @@ fn enter(t: &mut [u8], out: &mut [u8], at: usize, h: Call, clock: u64) -> Answer
         return Answer { number: n, len: at };
     }
     let len = answer(t, out, at, h, false, clock);
-    Answer { number: 0, len: len }
+    Answer {
+        number: 0,
+        len: len,
+    }
 }
 
 // A peer that is not held is judged, and rejected, as such.
@@ -61,7 +64,10 @@ fn admit_new(t: &mut [u8], out: &mut [u8], at: usize, h: Call, clock: u64) -> An
         Ruling::Deny(why) => {
             let peer = h.peer;
             let len = reject(out, at, peer, Source::NotHeld, why, h.lease);
-            Answer { number: 0, len: len }
+            Answer {
+                number: 0,
+                len: len,
+            }
         }
     }
 }
@@ -90,12 +96,18 @@ fn admit_held(
     match denied(t, h, source, clock) {
         Ruling::Admit => {
             let len = displace(t, out, at, i, h, source, clock);
-            Answer { number: 0, len: len }
+            Answer {
+                number: 0,
+                len: len,
+            }
         }
         Ruling::Deny(why) => {
             let peer = h.peer;
             let len = reject(out, at, peer, source, why, h.lease);
-            Answer { number: 0, len: len }
+            Answer {
+                number: 0,
+                len: len,
+            }
         }
     }
 }

@@ -75,7 +75,10 @@ fn held_msg1(t: &mut [u8], out: &mut [u8], at: usize, i: usize, h: Call, clock: 
         return admit(t, out, at, h, Source::Restart, clock);
     }
     let len = rekey(t, out, at, i, h);
-    Answer { number: 0, len: len }
+    Answer {
+        number: 0,
+        len: len,
+    }
 }
 
 // No msg2 is stored for it.
@@ -113,7 +116,10 @@ fn numbered_msg1(t: &mut [u8], out: &mut [u8], at: usize, h: Call, clock: u64) -
     match stored(t, pair, bytes) {
         Found::At(i) => {
             let len = repeat(t, out, at, i, h.lease);
-            Answer { number: 0, len: len }
+            Answer {
+                number: 0,
+                len: len,
+            }
         }
         Found::Nothing => new_msg1(t, out, at, h, clock),
     }

@@ -29,9 +29,9 @@ sub-put-msg2 c = last-within _ _ (viewTable (now (c .before .before .before .bef
 
 put-msg2-requires : tie.Need-put-msg2-requires
 put-msg2-requires c κs =
-    (c .before .before .before .before .before .before .join .ensures .fit,
-    (last-within _ _ (viewTable (now (c .before .before .before .before .before .before .before .before .before .before .before .before .before .before .before .before .before .before .before .before .args .t))) (c .before .before .before .before .before .before .join .ensures) (c .before .before .leg-count .ensures) .1,
-    msg2-room _ _ _ _ (c .before .before .before .before .before .before .before .before .before .before .before .before .before .before .before .before .params-of .ensures) (c .before .before .before .before .before .before .before .before .before .before .before .before .before .before .next-no .ensures) (c .before .before .before .before .before .before .before .before .answer-leg .ensures .1 _) (c .before .before .before .before .before .before .join .ensures) (c .before .before .leg-count .ensures) (c .before .before .before .before .before .before .before .before .before .before .before .before .before .before .before .before .before .before .before .before .pre .1 .1 .1 .1 .1 .1 .1)))
+    let within = last-within _ _ (viewTable (now (c .before .before .before .before .before .before .before .before .before .before .before .before .before .before .before .before .before .before .before .before .args .t))) (c .before .before .before .before .before .before .join .ensures) (c .before .before .leg-count .ensures) .1 in
+    let room = msg2-room _ _ _ _ (c .before .before .before .before .before .before .before .before .before .before .before .before .before .before .before .before .params-of .ensures) (c .before .before .before .before .before .before .before .before .before .before .before .before .before .before .next-no .ensures) (c .before .before .before .before .before .before .before .before .answer-leg .ensures .1 _) (c .before .before .before .before .before .before .join .ensures) (c .before .before .leg-count .ensures) (c .before .before .before .before .before .before .before .before .before .before .before .before .before .before .before .before .before .before .before .before .pre .1 .1 .1 .1 .1 .1 .1) in
+    (c .before .before .before .before .before .before .join .ensures .fit, (within, room))
 
 same-length : tie.Need-same-length
 same-length c = c .before .before .before .before .before .before .before .before .before .join .ensures .fit .size ∙ sym (c .before .before .before .before .before .before .before .before .before .before .before .before .before .before .before .before .before .before .before .before .before .before .before .pre .0 .size)

@@ -17,10 +17,11 @@ remove-at-requires c κs =
     let w = c .before .before .before .before .before .before .before .before .before .before .fits .clock .fits in
     let p = c .before .before .before .before .before .before .before .before .before .before .args .h .peer .0 in
     let i = c .before .before .before .before .before .before .before .before .before .before .args .i in
-    (stamped-ready _ s _ w p i (q .0) (q .1 .0) a,
-    (stamped-within _ s _ w p i (q .0) (q .1 .0) a,
-    (stamped-at _ s _ w p i (q .0) (q .1 .0) a,
-    space-is (space-left _ _ (q .1 .1 .1)) (sym (stamped-removed _ s _ w p i (q .0) (q .1 .0) a (c .before .before .before .before .before .before .displaces .ensures))))))
+    let ready = stamped-ready _ s _ w p i (q .0) (q .1 .0) a in
+    let within = stamped-within _ s _ w p i (q .0) (q .1 .0) a in
+    let is = stamped-at _ s _ w p i (q .0) (q .1 .0) a in
+    let same = stamped-removed _ s _ w p i (q .0) (q .1 .0) a (c .before .before .before .before .before .before .displaces .ensures) in
+    (ready, (within, (is, space-is (space-left _ _ (q .1 .1 .1)) (sym same))))
 
 answer-requires : tie.Need-answer-requires
 answer-requires c κs =

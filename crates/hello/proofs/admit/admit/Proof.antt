@@ -1,4 +1,4 @@
--- `admission::admit::admit` meets its contract.
+-- `hello::admit::admit` meets its contract.
 use mathlib.Core.Path.{sym, _∙_}
 use Rattle.laws.specs.Place.{place-within, find-at, find-nowhere}
 use Rattle.node_addr.specs.View.{finds-at, finds-none}
@@ -6,10 +6,10 @@ use Rattle.memories.specs.View.{sourceOf}
 use Rattle.input.specs.Call.{helloOf}
 use Rattle.held.specs.View.{noHeld}
 use Rattle.steps.specs.Did.{space-result, puts-length, ruled-is}
-use Rattle.admission.specs.Admit.{new-asked}
+use Rattle.hello.specs.Admit.{new-asked}
 use borrow.Author.Needs.{needs}
-use Rattle.admission.proofs.admit.admit.Statement.{statement}
-use Rattle.admission.proofs.admit.admit.Tie as tie
+use Rattle.hello.proofs.admit.admit.Statement.{statement}
+use Rattle.hello.proofs.admit.admit.Tie as tie
 
 find-held-requires : tie.Need-find-held-requires
 find-held-requires c κs = c .before .before .before .before .pre .0 .fit

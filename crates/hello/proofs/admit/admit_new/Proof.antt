@@ -1,13 +1,13 @@
--- `admission::admit::admit_new` meets its contract.
+-- `hello::admit::admit_new` meets its contract.
 use mathlib.Core.Path.{refl, sym, _∙_}
 use Rattle.input.specs.Call.{helloOf}
 use Rattle.state.specs.Told.{told-same}
 use Rattle.steps.specs.Did.{space-result, puts-length, ruled-ok, ruled-is}
 use Rattle.admission.specs.Ruling.{admits, denies}
-use Rattle.admission.specs.Admit.{new-rejected, new-enters}
+use Rattle.hello.specs.Admit.{new-rejected, new-enters}
 use borrow.Author.Needs.{needs}
-use Rattle.admission.proofs.admit.admit_new.Statement.{statement}
-use Rattle.admission.proofs.admit.admit_new.Tie as tie
+use Rattle.hello.proofs.admit.admit_new.Statement.{statement}
+use Rattle.hello.proofs.admit.admit_new.Tie as tie
 
 denied-requires : tie.Need-denied-requires
 denied-requires c κs = c .before .before .before .pre .0 .fit

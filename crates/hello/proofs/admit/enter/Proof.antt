@@ -1,11 +1,10 @@
--- `admission::admit::enter` meets its contract.
+-- `hello::admit::enter` meets its contract.
 use mathlib.Core.Path.{refl, sym, _∙_}
 use Rattle.steps.specs.Sound.{legs-room}
 use Rattle.steps.specs.Did.{space-place, space-result, puts-length, ruled-ok, ruled-refused, ruled-is}
 use Rattle.places.specs.Enter.{entering-passed, entering-refused}
-use borrow.Author.Needs.{needs}
-use Rattle.admission.proofs.admit.enter.Statement.{statement}
-use Rattle.admission.proofs.admit.enter.Tie as tie
+use Rattle.hello.proofs.admit.enter.Statement.{statement}
+use Rattle.hello.proofs.admit.enter.Tie as tie
 
 entering-requires : tie.Need-entering-requires
 entering-requires c κs = c .before .before .before .before .pre .0
@@ -20,9 +19,9 @@ answer-requires : tie.Need-answer-requires
 answer-requires c κs =
     let p = c .before .before .before .before .before .before .before .before .pre .1 in
     let room = c .before .before .before .entering .ensures .links (c .before .before .if1 .left) in
-    (c .before .before .before .before .before .before .before .before .pre .0 .fit,
-    (p .0, (p .1 .0, (p .1 .1 .0,
-    (room, (legs-room (c .before .before .before .before .before .before .before .before .pre .0 .sound) room, (p .1 .1 .1 .0, space-result (p .1 .1 .1 .1) (entering-passed (c .before .before .before .entering .ensures) _ (c .before .before .if1 .left)))))))))
+    let legs = legs-room (c .before .before .before .before .before .before .before .before .pre .0 .sound) room in
+    let space = space-result (p .1 .1 .1 .1) (entering-passed (c .before .before .before .entering .ensures) _ (c .before .before .if1 .left)) in
+    (c .before .before .before .before .before .before .before .before .pre .0 .fit, (p .0, (p .1 .0, (p .1 .1 .0, (room, (legs, (p .1 .1 .1 .0, space)))))))
 
 same-length-2 : tie.Need-same-length-2
 same-length-2 c = c .before .before .before .before .answer .ensures .table .fit .size ∙ sym (c .before .before .before .before .before .before .before .before .before .before .before .before .before .pre .0 .fit .size)

@@ -1,11 +1,11 @@
--- `admission::msg1::held_msg1` meets its contract.
+-- `hello::msg1::held_msg1` meets its contract.
 use mathlib.Core.Path.{refl, sym, _∙_}
 use Rattle.input.specs.Call.{helloOf}
 use Rattle.state.specs.Told.{told-same}
 use Rattle.steps.specs.Did.{space-result, puts-length, ruled-ok, ruled-is}
-use Rattle.admission.specs.Msg1.{msg1-restart, msg1-rekey}
-use Rattle.admission.proofs.msg1.held_msg1.Statement.{statement}
-use Rattle.admission.proofs.msg1.held_msg1.Tie as tie
+use Rattle.hello.specs.Msg1.{msg1-restart, msg1-rekey}
+use Rattle.hello.proofs.msg1.held_msg1.Statement.{statement}
+use Rattle.hello.proofs.msg1.held_msg1.Tie as tie
 
 held-epoch-requires : tie.Need-held-epoch-requires
 held-epoch-requires c κs = (c .before .before .before .pre .0 .fit, c .before .before .before .pre .1 .1 .1 .1 .1 .1 .0)

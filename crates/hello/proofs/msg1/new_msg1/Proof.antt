@@ -1,14 +1,14 @@
--- `admission::msg1::new_msg1` meets its contract.
+-- `hello::msg1::new_msg1` meets its contract.
 use mathlib.Core.Path.{sym, _∙_}
 use Rattle.laws.specs.Place.{place-within, find-at, find-nowhere}
 use Rattle.node_addr.specs.View.{finds-at, finds-none}
 use Rattle.input.specs.Call.{helloOf}
 use Rattle.held.specs.View.{noHeld}
 use Rattle.steps.specs.Did.{space-result, puts-length, ruled-is}
-use Rattle.admission.specs.Msg1.{msg1-new}
+use Rattle.hello.specs.Msg1.{msg1-new}
 use borrow.Author.Needs.{needs}
-use Rattle.admission.proofs.msg1.new_msg1.Statement.{statement}
-use Rattle.admission.proofs.msg1.new_msg1.Tie as tie
+use Rattle.hello.proofs.msg1.new_msg1.Statement.{statement}
+use Rattle.hello.proofs.msg1.new_msg1.Tie as tie
 
 find-held-requires : tie.Need-find-held-requires
 find-held-requires c κs = c .before .before .before .before .pre .0 .fit

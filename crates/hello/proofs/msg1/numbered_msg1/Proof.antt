@@ -1,13 +1,13 @@
--- `admission::msg1::numbered_msg1` meets its contract.
+-- `hello::msg1::numbered_msg1` meets its contract.
 use mathlib.Core.Path.{refl, sym, _∙_}
 use Rattle.input.specs.Call.{helloOf}
 use Rattle.state.specs.Told.{told-same}
 use Rattle.steps.specs.Did.{space-result, puts-length, ruled-ok, ruled-is}
 use Rattle.admission.specs.Put.{yields-place, yields-some, yields-none}
-use Rattle.admission.specs.Msg1.{msg1-stored}
+use Rattle.hello.specs.Msg1.{msg1-stored}
 use borrow.Author.Needs.{needs}
-use Rattle.admission.proofs.msg1.numbered_msg1.Statement.{statement}
-use Rattle.admission.proofs.msg1.numbered_msg1.Tie as tie
+use Rattle.hello.proofs.msg1.numbered_msg1.Statement.{statement}
+use Rattle.hello.proofs.msg1.numbered_msg1.Tie as tie
 
 stored-requires : tie.Need-stored-requires
 stored-requires c κs = (c .before .before .before .before .before .pre .0 .fit, (c .before .before .before .before .before .pre .1 .0, c .before .before .before .before .before .pre .1 .1 .0))

@@ -1,10 +1,10 @@
--- `admission::msg1::rekey` meets its contract.
+-- `hello::msg1::rekey` meets its contract.
 use mathlib.Core.Path.{_∙_}
 use Rattle.steps.specs.Did.{wrote-length}
-use Rattle.admission.specs.Put.{rekey-room, rekey-free, rekey-puts}
+use Rattle.hello.specs.Msg1.{rekey-room, rekey-free, rekey-puts}
 use borrow.Author.Needs.{needs}
-use Rattle.admission.proofs.msg1.rekey.Statement.{statement}
-use Rattle.admission.proofs.msg1.rekey.Tie as tie
+use Rattle.hello.proofs.msg1.rekey.Statement.{statement}
+use Rattle.hello.proofs.msg1.rekey.Tie as tie
 
 attributed-requires : tie.Need-attributed-requires
 attributed-requires c κs = (c .before .before .before .before .pre .0, (c .before .before .before .before .pre .1 .0, c .before .before .before .before .pre .1 .1 .0))

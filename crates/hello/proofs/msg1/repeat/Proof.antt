@@ -1,10 +1,10 @@
--- `admission::msg1::repeat` meets its contract.
+-- `hello::msg1::repeat` meets its contract.
 use mathlib.Core.Path.{_∙_}
 use Rattle.rules.specs.Data.{Free}
 use Rattle.output.specs.Write.{puts-one}
 use Rattle.steps.specs.Did.{space-head, space-tail, puts-cons, wrote-length}
-use Rattle.admission.proofs.msg1.repeat.Statement.{statement}
-use Rattle.admission.proofs.msg1.repeat.Tie as tie
+use Rattle.hello.proofs.msg1.repeat.Statement.{statement}
+use Rattle.hello.proofs.msg1.repeat.Tie as tie
 
 put-msg2-requires : tie.Need-put-msg2-requires
 put-msg2-requires c κs = (c .before .before .before .pre .0, (c .before .before .before .pre .1 .0, space-head _ (c .before .before .before .pre .1 .1)))
