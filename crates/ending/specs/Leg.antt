@@ -1,15 +1,15 @@
 -- A leg that ends: room for what is written of it, and what the table then shows.
-use mathlib.Core.Path.{_≡_, refl, sym, ap, _∙_, subst}
+use mathlib.Core.Path.{_≡_, sym, ap, _∙_, subst}
 use mathlib.Core.Option.{Option, none, some}
-use mathlib.Core.List.{List, []}
+use mathlib.Core.List.{List}
 use Prim.Native.Nat.{ℕ, _+_, _≤_}
 use lib.ListN.{length}
 use Rattle.rules.specs.Base.{Bytes, option}
-use Rattle.rules.specs.Data.{Pair, LinkRec, Leg, Table, Output, Step, Free, Retire}
+use Rattle.rules.specs.Data.{Pair, Leg, Table, Free, Retire}
 use Rattle.rules.specs.Output.{outputRecord, pairsBytes}
 use Rattle.rules.specs.Links.{retired, retiring}
 use Rattle.rules.specs.Legs.{onLink}
-use Rattle.rules.specs.Settle.{withLinks, legAt, dropLeg, still, ends, abandon}
+use Rattle.rules.specs.Settle.{withLinks, dropLeg, still, ends, abandon}
 use Rattle.laws.specs.Scan.{scan}
 use Rattle.laws.specs.Place.{find-at, find-nowhere}
 use Rattle.laws.specs.Splice.{Wrote}

@@ -8,7 +8,7 @@ use lib.ListN.{length}
 use Rattle.rules.specs.Base.{if_then_else_, option, is, Bytes, All, without}
 use Rattle.rules.specs.Std.{Ascending}
 use Rattle.rules.specs.Time.{Params}
-use Rattle.rules.specs.Data.{Pair, Held, Memory, Table, Why, Output, Step, Retire, Retry}
+use Rattle.rules.specs.Data.{Pair, Held, Table, Why, Output, Step, Retire, Retry}
 use Rattle.rules.specs.Output.{outputRecord, pairsBytes}
 use Rattle.rules.specs.Links.{retired, retiring}
 use Rattle.rules.specs.Gates.{earlierMemory, memory, store, ended}

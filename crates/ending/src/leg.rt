@@ -1,7 +1,7 @@
 // The end of a handshake leg.
 use node_addr::Found;
 use node_addr::LinkNo;
-use output::list::put_retire;
+use lists::put_retire;
 use output::put::put_free;
 use state::leg::drop_leg;
 use state::leg::find_leg;

@@ -16,8 +16,8 @@ use Rattle.laws.specs.Buffer.{kept-filled, shown-filled}
 use Rattle.node_addr.specs.View.{viewPair, FitPair, FitMessage, blankPair, blankMessage}
 use Rattle.node_addr.specs.declared.Pair as pairs
 use Rattle.node_addr.specs.declared.Message as messages
-use Rattle.fields.specs.declared.field.ReadPair as readpair
-use Rattle.fields.specs.declared.field.ReadMessage as readmessage
+use Rattle.fields.specs.declared.ReadPair as readpair
+use Rattle.fields.specs.declared.ReadMessage as readmessage
 use Rattle.fields.specs.Told.{Told, told-some, told-yes, told-no, below, meant, code-is}
 
 abbrev pub noPair : readpair.ReadPair

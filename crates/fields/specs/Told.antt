@@ -1,21 +1,17 @@
--- What a field's reader answers of the bytes that it was handed, and readers in a row that are made of such readers.
-use mathlib.Core.Path.{_≡_, refl, sym, ap, _∙_}
-use mathlib.Core.Bool.{Bool, true, false, not}
+-- What a field's reader answers of the bytes that it was handed.
+use mathlib.Core.Path.{_≡_, refl, sym, _∙_}
+use mathlib.Core.Bool.{Bool, true, false}
 use mathlib.Core.Option.{Option, none, some}
 use mathlib.Core.List.{List, [], _∷_}
-use Prim.Native.Nat.{ℕ, zero, suc, _+_, _-_, _^_, _≤_, _<_}
+use Prim.Native.Nat.{ℕ, zero, suc, _≤_, _<_}
 use native.Mathlib.Omega.{arith}
 use borrow.Author.Needs.{needs}
-use borrow.Author.Tests.{not-true, not-false, lt-ltb, le-ltb, ltb-true, ltb-false}
-use lib.Dec.{ltb, lit≤}
-use lib.Seq.{drop-drop, drop-cons}
-use lib.ListN.{length, take, drop, getD, getElem?, length-drop}
-use mir.Syntax.{w64}
-use mir.Val.{Fits}
+use borrow.Author.Tests.{lt-ltb, le-ltb, ltb-true, ltb-false}
+use lib.Dec.{ltb}
+use lib.ListN.{length, take, drop, getD, getElem?}
 use Rattle.rules.specs.Base.{if_then_else_, option, Bytes}
 use Rattle.rules.specs.Field.{Reader, bind, number, bytes, code, more}
-use Rattle.laws.specs.Parse.{rest-of, bytes-yes, bytes-no, number-yes, number-no, byte-is}
-use Rattle.laws.specs.Follow.{Stepped, stepped-off, stepped-none, stepped-some}
+use Rattle.laws.specs.Parse.{bytes-yes, bytes-no, number-yes, number-no, byte-is}
 
 -- o is what the rules read in s. Where there is something it is v, in the first n bytes; and v is b where there is nothing.
 pub record Told {A : Type 0} (b : A) (o : Option (A × Bytes)) (ok : Bool) (v : A) (n : ℕ) (s : Bytes) : Type 0 where
@@ -108,32 +104,3 @@ code-is {A} ms d s = go (number 1 s)
         ≡ meant ms d (option o none (λ r. if ltb (r .0) (length ms) then some (r .0, r .1) else none))
     go none = refl
     go (some x) = at-byte (x .0) (x .1) (ltb (x .0) (length ms)) refl
-
--- ---- a reader of a part, made one that passes ok and the place on
-module _ {A : Type 0} {p : Reader A} {ok : Bool} {at : ℕ} {s : Bytes} where
-  module _ {b : A} {ok′ : Bool} {v : A} {n : ℕ} (t : Told b (p (take (length s - at) (drop at s))) ok′ v n (take (length s - at) (drop at s))) (h : not ok ≡ false) (r : at ≤ length s) where
-    pub stepped-no : {w : A} → not ok′ ≡ true → Stepped p ok at s false w at
-    stepped-no q = stepped-none h r (rw rest-of at (told-no t (not-true ok′ q)))
-
-    pub stepped-yes : not ok′ ≡ false → Stepped p ok at s true v (at + n)
-    stepped-yes q =
-        let e : ok′ ≡ true = not-false ok′ q in
-        let l = rw rest-of at (told-room t e) in
-        stepped-some n h (omega (arith, rw length-drop at l)) (simp rest-of at (told-yes t e))
-
-pub stepped-fits : {A : Type 0} {b : A} {o : Option (A × Bytes)} {ok : Bool} {v : A} {n : ℕ} (at : ℕ) (s : Bytes)
-    → Told b o ok v n (take (length s - at) (drop at s)) → not ok ≡ false → at ≤ length s → length s < 2 ^ 64 → Fits w64 (at + n)
-stepped-fits {ok = ok} at s t q r l = let m = rw length-drop at (rw rest-of at (told-room t (not-false ok q))) in omega arith
-
-pub ruleset stepping = (needs, stepped-off, stepped-no, stepped-yes, stepped-fits)
-
--- a code, by the byte that was read for it
-pub coded : {A : Type 0} (ms : List A) (d : A) {ok : Bool} {at : ℕ} {s : Bytes} {ok′ : Bool} {v at′ : ℕ} → Stepped (below (length ms)) ok at s ok′ v at′ → Stepped (code ms) ok at s ok′ (getD ms v d) at′
-coded {A} ms d {ok} {at} {s} {ok′} {v} {at′} t = record { is = go ok ok′ (t .is); room = t .room }
-  where
-    go : (ok ok′ : Bool) → (if ok then below (length ms) (drop at s) else none) ≡ (if ok′ then some (v, drop at′ s) else none)
-        → (if ok then code ms (drop at s) else none) ≡ (if ok′ then some (getD ms v d, drop at′ s) else none)
-    go true true e = rw (code-is ms d (drop at s), e)
-    go true false e = rw (code-is ms d (drop at s), e)
-    go false true e = cc
-    go false false e = refl

@@ -14,7 +14,7 @@ use Rattle.rules.specs.Settle.{withLinks, writes, crowded, addPath, release}
 use Rattle.laws.specs.Splice.{Wrote}
 use Rattle.node_addr.specs.declared.Pair as pair
 use Rattle.node_addr.specs.View.{viewPair, FitPair}
-use Rattle.output.specs.Lists.{pair-length}
+use Rattle.parts.specs.Part.{pair-length}
 use Rattle.output.specs.Write.{puts-one}
 use Rattle.state.specs.View.{viewTable, FitTable, Told}
 use Rattle.state.specs.Told.{told-same}

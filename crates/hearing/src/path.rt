@@ -2,7 +2,7 @@
 use links::record::Proven;
 use node_addr::LinkNo;
 use node_addr::Pair;
-use output::list::put_release;
+use lists::put_release;
 use state::link::crowded;
 use state::link::set_path;
 ghost use Rattle.rules.specs.Settle as rule;

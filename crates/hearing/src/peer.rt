@@ -2,7 +2,7 @@
 use node_addr::Found;
 use node_addr::NodeAddr;
 use node_addr::Pair;
-use output::code::Transition;
+use codes::Transition;
 use output::put::put_reset;
 use state::peer::current_is;
 use state::peer::find_held;

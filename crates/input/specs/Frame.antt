@@ -15,9 +15,9 @@ use Rattle.rules.specs.Field.{Reader, give, fail, bind, number, clock, more}
 use Rattle.rules.specs.Record.{Timed, timed, finished, framed, readCall}
 use Rattle.laws.specs.Parse.{number-yes, number-no, byte-is}
 use Rattle.laws.specs.Follow.{Stepped, Follows, follows-start, follows-step}
-use Rattle.input.specs.Call.{Read, callOf, timedOf, kindFields}
-use Rattle.input.specs.declared.call.Call as callrec
-use Rattle.input.specs.declared.call.ReadCall as readcall
+use Rattle.calls.specs.Call.{Read, callOf, timedOf, kindFields}
+use Rattle.calls.specs.declared.Call as callrec
+use Rattle.calls.specs.declared.ReadCall as readcall
 
 -- the kind, where length and version are right
 unfoldable pub heading : Reader ℕ

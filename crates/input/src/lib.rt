@@ -1,5 +1,2 @@
-// Records read: the fields of a call and of new, each from the rest of the record.
-pub mod begin;
-pub mod call;
+// The record of a call read: its frame, its kind and its fields.
 pub mod read;
-pub mod shape;

@@ -1,20 +1,20 @@
 // A call's record: length (of what follows), version 1, kind, clock, fields, and nothing more.
-use crate::call::ReadCall;
-use crate::shape::arrived_fields;
-use crate::shape::bare_fields;
-use crate::shape::dial_fields;
-use crate::shape::heard_fields;
-use crate::shape::link_fields;
-use crate::shape::msg1_fields;
-use crate::shape::msg2_fields;
-use crate::shape::no_fields;
-use crate::shape::path_fields;
-use crate::shape::release_fields;
-use crate::shape::remove_fields;
-use crate::shape::replacement_fields;
-use crate::shape::restarted_fields;
-use fields::field::two_bytes;
-use fields::row::word_at;
+use calls::ReadCall;
+use fields::two_bytes;
+use hellos::arrived_fields;
+use hellos::dial_fields;
+use hellos::msg1_fields;
+use hellos::replacement_fields;
+use rows::word_at;
+use shapes::bare_fields;
+use shapes::heard_fields;
+use shapes::link_fields;
+use shapes::msg2_fields;
+use shapes::no_fields;
+use shapes::path_fields;
+use shapes::release_fields;
+use shapes::remove_fields;
+use shapes::restarted_fields;
 ghost use mathlib.Core.Path.{_≡_};
 ghost use mathlib.Core.Bool.{true};
 ghost use mathlib.Core.Option.{none, some};
@@ -23,7 +23,7 @@ ghost use lib.ListN.{length};
 ghost use Rattle.rules.specs.Base.{if_then_else_};
 ghost use Rattle.rules.specs.Record.{readCall};
 ghost use Rattle.laws.specs.Follow.{Stepped};
-ghost use Rattle.input.specs.Call.{Read, FitCall, timedOf, kindFields};
+ghost use Rattle.calls.specs.Call.{Read, FitCall, timedOf, kindFields};
 ghost use Rattle.input.specs.Frame.{heading};
 
 pub struct Frame {

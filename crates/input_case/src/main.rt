@@ -1,14 +1,14 @@
 // Reads cases from standard input, each the count of its bytes in 3 bytes and then the bytes, and writes what is read in each: the call, a line, and the new, a line.
-use input::begin::ReadNew;
-use input::begin::read_new;
-use input::call::Call;
+use begin::ReadNew;
+use begin::read_new;
+use calls::Call;
 use input::read::read_call;
 use memory::read::get_be;
 use node_addr::Digest;
 use params::Params;
 ghost use Prim.Native.Nat.{_≤_};
 ghost use lib.ListN.{length};
-ghost use Rattle.input.specs.Call.{FitCall};
+ghost use Rattle.calls.specs.Call.{FitCall};
 
 fn wide(x: u8) -> u64 {
     x as u64

@@ -1,4 +1,2 @@
-pub mod Codes
 pub mod Write
-pub mod Lists
 pub mod Size

@@ -1,16 +1,16 @@
 -- How many bytes each output takes.
 use mathlib.Core.Path.{_≡_, refl, _∙_}
 use mathlib.Core.Option.{none, some}
-use mathlib.Core.List.{List, [], _∷_, _++_}
+use mathlib.Core.List.{List, [], _∷_}
 use Prim.Native.Nat.{ℕ, _+_}
 use native.Mathlib.Omega.{arith}
 use lib.ListN.{length, length-append}
 use Rattle.rules.specs.Base.{Bytes, tally}
 use Rattle.rules.specs.Data.{Output, Opened, Resend, Rekey, Install, Reset, Retire, Free, Retry, Reject}
-use Rattle.rules.specs.Field.{digits, messageBytes, frame}
+use Rattle.rules.specs.Field.{messageBytes, frame}
 use Rattle.rules.specs.Output.{pairsBytes, listBytes, installBytes, outputBytes, outputRecord, outputs, doneRecord}
 use Rattle.laws.specs.Splice.{length-digits}
-use Rattle.output.specs.Lists.{length-pair}
+use Rattle.parts.specs.Part.{length-pair}
 
 abbrev pub sizeOf : Output → ℕ
 sizeOf (Opened n) = 12

@@ -1,16 +1,12 @@
 // The outputs of one record each, but those with a list.
-use crate::code::Build;
-use crate::code::Transition;
-use crate::code::Why;
-use crate::code::build_code;
-use crate::code::denial_code;
-use crate::code::source_code;
-use crate::code::transition_code;
-use crate::code::why_code;
-use crate::part::put_flag;
-use crate::part::put_frame;
-use crate::part::put_message;
-use crate::part::put_pair;
+use codes::Build;
+use codes::Transition;
+use codes::Why;
+use codes::build_code;
+use codes::denial_code;
+use codes::source_code;
+use codes::transition_code;
+use codes::why_code;
 use memories::Denial;
 use memories::Source;
 use memory::write::put_be;
@@ -19,6 +15,10 @@ use node_addr::LinkNo;
 use node_addr::NodeAddr;
 use node_addr::Pair;
 use node_addr::place::put_node;
+use parts::put_flag;
+use parts::put_frame;
+use parts::put_message;
+use parts::put_pair;
 ghost use mathlib.Core.Path.{_≡_};
 ghost use mathlib.Core.Option.{none, some};
 ghost use Prim.Native.Nat.{_+_, _≤_};
@@ -29,7 +29,7 @@ ghost use Rattle.rules.specs.Output.{outputRecord, doneRecord};
 ghost use Rattle.laws.specs.Splice.{Wrote};
 ghost use Rattle.node_addr.specs.View.{viewPair, FitPair};
 ghost use Rattle.memories.specs.View.{sourceOf, denialOf};
-ghost use Rattle.output.specs.Codes.{whyOf, buildOf, transitionOf};
+ghost use Rattle.codes.specs.Codes.{whyOf, buildOf, transitionOf};
 
 // 0, the number of the call: 0 for none.
 pub fn put_done(out: &mut [u8], at: usize, number: u8) -> usize

@@ -24,8 +24,8 @@ use Rattle.rules.proofs.Bounds.{bounds-new, bounds-call}
 use Rattle.rules.proofs.Size as size
 use Rattle.laws.specs.Splice.{splice}
 use Rattle.params.specs.View.{viewParams}
-use Rattle.input.specs.Begin.{News, beginOf, news-start}
-use Rattle.input.specs.declared.begin.ReadNew as readnew
+use Rattle.begin.specs.Begin.{News, beginOf, news-start}
+use Rattle.begin.specs.declared.ReadNew as readnew
 use Rattle.output.specs.Write.{Puts}
 use Rattle.state.specs.View.{viewTable, FitTable, Told}
 use Rattle.steps.specs.Did.{Space, Did, Ruled, ruled-refused, ruled-is, space-result}

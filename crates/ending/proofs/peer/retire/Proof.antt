@@ -1,6 +1,5 @@
 -- `ending::peer::retire` meets its contract.
 use mathlib.Core.Path.{sym, _∙_}
-use Rattle.steps.specs.Did.{wrote-length}
 use Rattle.ending.specs.Peer.{all-listed, none-listed, retires-room, retires-did}
 use borrow.Author.Needs.{needs}
 use Rattle.ending.proofs.peer.retire.Statement.{statement}

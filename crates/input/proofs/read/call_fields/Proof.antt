@@ -1,7 +1,7 @@
 use borrow.Author.Needs.{needs}
 use native.Mathlib.Omega.{arith}
 use Rattle.rules.specs.Record.{kinds}
-use Rattle.input.specs.Call.{callOf}
+use Rattle.calls.specs.Call.{callOf}
 use Rattle.input.proofs.read.call_fields.Statement.{statement}
 use Rattle.input.proofs.read.call_fields.Tie as tie
 

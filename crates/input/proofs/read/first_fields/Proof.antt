@@ -1,7 +1,7 @@
 use borrow.Author.Needs.{needs}
 use mathlib.Core.Path.{_≡_}
 use Rattle.rules.specs.Record.{kinds}
-use Rattle.input.specs.Call.{callOf, of-first}
+use Rattle.calls.specs.Call.{callOf, of-first}
 use Rattle.input.proofs.read.first_fields.Statement.{statement}
 use Rattle.input.proofs.read.first_fields.Tie as tie
 

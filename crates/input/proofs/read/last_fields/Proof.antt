@@ -1,6 +1,6 @@
 use borrow.Author.Needs.{needs}
 use Rattle.rules.specs.Record.{kinds}
-use Rattle.input.specs.Call.{callOf, no-kind, of-last}
+use Rattle.calls.specs.Call.{callOf, no-kind, of-last}
 use Rattle.input.proofs.read.last_fields.Statement.{statement}
 use Rattle.input.proofs.read.last_fields.Tie as tie
 

@@ -2,7 +2,7 @@ use borrow.Author.Needs.{needs}
 use native.Mathlib.Omega.{arith}
 use mathlib.Core.Path.{_≡_}
 use Rattle.rules.specs.Record.{kinds}
-use Rattle.input.specs.Call.{callOf}
+use Rattle.calls.specs.Call.{callOf}
 use Rattle.input.proofs.read.middle_fields.Statement.{statement}
 use Rattle.input.proofs.read.middle_fields.Tie as tie
 

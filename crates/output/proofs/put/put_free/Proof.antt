@@ -2,7 +2,7 @@ use borrow.Author.Needs.{needs}
 use mathlib.Core.Path.{refl}
 use Rattle.rules.specs.Data.{Free}
 use Rattle.rules.specs.Output.{outputBytes}
-use Rattle.output.specs.Write.{written}
+use Rattle.parts.specs.Part.{written}
 use Rattle.output.proofs.put.put_free.Statement.{statement}
 use Rattle.output.proofs.put.put_free.Tie as tie
 

@@ -2,7 +2,7 @@ use borrow.Author.Needs.{needs}
 use mathlib.Core.Path.{refl}
 use Rattle.rules.specs.Data.{Opened}
 use Rattle.rules.specs.Output.{outputBytes}
-use Rattle.output.specs.Write.{written}
+use Rattle.parts.specs.Part.{written}
 use Rattle.output.proofs.put.put_opened.Statement.{statement}
 use Rattle.output.proofs.put.put_opened.Tie as tie
 

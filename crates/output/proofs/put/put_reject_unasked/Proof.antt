@@ -4,7 +4,7 @@ use Rattle.laws.specs.Splice.{wrote-then}
 use Rattle.rules.specs.Data.{Reject}
 use mathlib.Core.Option.{none}
 use Rattle.rules.specs.Output.{outputBytes}
-use Rattle.output.specs.Write.{written}
+use Rattle.parts.specs.Part.{written}
 use Rattle.output.proofs.put.put_reject_unasked.Statement.{statement}
 use Rattle.output.proofs.put.put_reject_unasked.Tie as tie
 

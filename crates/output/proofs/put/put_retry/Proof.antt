@@ -2,7 +2,7 @@ use borrow.Author.Needs.{needs}
 use mathlib.Core.Path.{refl}
 use Rattle.rules.specs.Data.{Retry}
 use Rattle.rules.specs.Output.{outputBytes}
-use Rattle.output.specs.Write.{written}
+use Rattle.parts.specs.Part.{written}
 use Rattle.output.proofs.put.put_retry.Statement.{statement}
 use Rattle.output.proofs.put.put_retry.Tie as tie
 

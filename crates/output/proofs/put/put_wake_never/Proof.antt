@@ -3,7 +3,7 @@ use mathlib.Core.Path.{refl}
 use Rattle.rules.specs.Data.{Output}
 use mathlib.Core.Option.{none}
 use Rattle.rules.specs.Output.{outputBytes}
-use Rattle.output.specs.Write.{written}
+use Rattle.parts.specs.Part.{written}
 use Rattle.output.proofs.put.put_wake_never.Statement.{statement}
 use Rattle.output.proofs.put.put_wake_never.Tie as tie
 

@@ -1,0 +1,16 @@
+use Rattle.rows.specs.Row.{stepping}
+use Rattle.rows.proofs.digest_at.Statement.{statement}
+use Rattle.rows.proofs.digest_at.Tie as tie
+
+pub digest-at-spec : {M : Type 1} → statement M
+digest-at-spec =
+    tie.close
+    (tie.spec
+    (λ c. search stepping)
+    (λ c. search stepping)
+    (λ c. search stepping)
+    (λ c κs. search stepping)
+    (λ c. search stepping)
+    (λ c. search stepping)
+    (λ c. search stepping)
+    (λ c. search stepping))

@@ -1,0 +1,46 @@
+-- Readers in a row, made of readers that are each handed the rest of the record.
+use mathlib.Core.Path.{_≡_, refl}
+use mathlib.Core.Bool.{Bool, true, false, not}
+use mathlib.Core.Option.{Option, none, some}
+use mathlib.Core.List.{List}
+use Prim.Native.Nat.{ℕ, _+_, _-_, _^_, _≤_, _<_}
+use native.Mathlib.Omega.{arith}
+use borrow.Author.Needs.{needs}
+use borrow.Author.Tests.{not-true, not-false}
+use lib.ListN.{length, take, drop, getD, length-drop}
+use mir.Syntax.{w64}
+use mir.Val.{Fits}
+use Rattle.rules.specs.Base.{if_then_else_, Bytes}
+use Rattle.rules.specs.Field.{Reader, code}
+use Rattle.laws.specs.Parse.{rest-of}
+use Rattle.laws.specs.Follow.{Stepped, stepped-off, stepped-none, stepped-some}
+use Rattle.fields.specs.Told.{Told, told-yes, told-no, told-room, below, code-is}
+
+-- ---- a reader of a part, made one that passes ok and the place on
+module _ {A : Type 0} {p : Reader A} {ok : Bool} {at : ℕ} {s : Bytes} where
+  module _ {b : A} {ok′ : Bool} {v : A} {n : ℕ} (t : Told b (p (take (length s - at) (drop at s))) ok′ v n (take (length s - at) (drop at s))) (h : not ok ≡ false) (r : at ≤ length s) where
+    pub stepped-no : {w : A} → not ok′ ≡ true → Stepped p ok at s false w at
+    stepped-no q = stepped-none h r (rw rest-of at (told-no t (not-true ok′ q)))
+
+    pub stepped-yes : not ok′ ≡ false → Stepped p ok at s true v (at + n)
+    stepped-yes q =
+        let e : ok′ ≡ true = not-false ok′ q in
+        let l = rw rest-of at (told-room t e) in
+        stepped-some n h (omega (arith, rw length-drop at l)) (simp rest-of at (told-yes t e))
+
+pub stepped-fits : {A : Type 0} {b : A} {o : Option (A × Bytes)} {ok : Bool} {v : A} {n : ℕ} (at : ℕ) (s : Bytes)
+    → Told b o ok v n (take (length s - at) (drop at s)) → not ok ≡ false → at ≤ length s → length s < 2 ^ 64 → Fits w64 (at + n)
+stepped-fits {ok = ok} at s t q r l = let m = rw length-drop at (rw rest-of at (told-room t (not-false ok q))) in omega arith
+
+pub ruleset stepping = (needs, stepped-off, stepped-no, stepped-yes, stepped-fits)
+
+-- a code, by the byte that was read for it
+pub coded : {A : Type 0} (ms : List A) (d : A) {ok : Bool} {at : ℕ} {s : Bytes} {ok′ : Bool} {v at′ : ℕ} → Stepped (below (length ms)) ok at s ok′ v at′ → Stepped (code ms) ok at s ok′ (getD ms v d) at′
+coded {A} ms d {ok} {at} {s} {ok′} {v} {at′} t = record { is = go ok ok′ (t .is); room = t .room }
+  where
+    go : (ok ok′ : Bool) → (if ok then below (length ms) (drop at s) else none) ≡ (if ok′ then some (v, drop at′ s) else none)
+        → (if ok then code ms (drop at s) else none) ≡ (if ok′ then some (getD ms v d, drop at′ s) else none)
+    go true true e = rw (code-is ms d (drop at s), e)
+    go true false e = rw (code-is ms d (drop at s), e)
+    go false true e = cc
+    go false false e = refl
