@@ -66,17 +66,11 @@ pub fn dial(
     ensures { λ r. ⌜ Ruled (now (t .entry)) (now (out .entry)) at (now (t .exit)) (now (out .exit)) (r .number) (r .len) (rule.step clock (Call.Dial (peer .0) (viewPair to) (viewMessage msg1) lease) (viewTable (now (t .entry)))) ⌝ }
 {
     if exhausted(t) {
-        return Answer {
-            number: 4,
-            len: at,
-        };
+        return Answer { number: 4, len: at };
     }
     let e = entering(t, peer);
     if e != 0 {
-        return Answer {
-            number: e,
-            len: at,
-        };
+        return Answer { number: e, len: at };
     }
     let len = open_dial(t, out, at, peer, to, msg1, lease, clock);
     Answer {
