@@ -1,6 +1,6 @@
 -- From what table and input give to the entries' contracts.
 use mathlib.Core.Path.{_≡_, refl, sym, ap, _∙_, subst}
-use mathlib.Core.Bool.{Bool, true, false}
+use mathlib.Core.Bool.{Bool, true, false, not}
 use mathlib.Core.Option.{Option, none, some}
 use mathlib.Core.List.{List, [], _∷_, _++_}
 use Prim.Native.Nat.{ℕ, suc, _+_, _≤_, _<_}
@@ -68,6 +68,32 @@ called {t} {o} {k = k} s b l r =
       size = e;
       bytes = w .is ∙ ap (λ (i : ℕ). ruledBytes t s o ++ drop i o) (sym (w .end));
     }
+
+was-true : (b : Bool) → not b ≡ false → b ≡ true
+was-true true e = refl
+was-true false e = cc
+
+was-false : (b : Bool) → not b ≡ true → b ≡ false
+was-false true e = cc
+was-false false e = refl
+
+-- 2: the buffer is short
+pub call-short : {t o : Bytes} (s : Bytes) → All IsByte s → Left t → length o < 10_240 → Called t s o t o 2 0
+call-short {t} {o} s b l h = called s b l (ruled-is (ruled-refused 2 (l .fit) (omega arith)) (short t s o h))
+
+-- 3: no call was read
+pub call-unread : {t o : Bytes} (s : Bytes) (x : Timed) (ok : Bool) → All IsByte s → Left t → 10_240 ≤ length o → (if ok then some x else none) ≡ readCall s → not ok ≡ true
+    → Called t s o t o 3 0
+call-unread {t} {o} s x ok b l h e f = called s b l (ruled-is (ruled-refused 3 (l .fit) (omega arith)) (unread t s o h (rw (was-false ok f) at e)))
+
+-- a call was read: its step
+pub call-space : {t o : Bytes} (s : Bytes) (x : Timed) (ok : Bool) → All IsByte s → Left t → 10_240 ≤ length o → (if ok then some x else none) ≡ readCall s → not ok ≡ false
+    → Space o 0 ((step (x .now) (x .call) (viewTable t)) .step .outs)
+call-space {t} {o} s x ok b l h e f = space-result (space s b l h) (sym (reads {x = x} t s o h (rw (was-true ok f) at e)))
+
+pub call-done : {t o t′ o′ : Bytes} {n k : ℕ} (s : Bytes) (x : Timed) (ok : Bool) → All IsByte s → Left t → 10_240 ≤ length o → (if ok then some x else none) ≡ readCall s → not ok ≡ false
+    → Ruled t o 0 t′ o′ n k (step (x .now) (x .call) (viewTable t)) → Called t s o t′ o′ n k
+call-done {t} {o} s x ok b l h e f r = called s b l (ruled-is r (reads {x = x} t s o h (rw (was-true ok f) at e)))
 
 -- ---- new
 
