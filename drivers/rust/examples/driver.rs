@@ -21,7 +21,8 @@ fn main() -> Result<(), Refusal> {
     ];
     let mut out = [0; OUT];
     for (clock, call) in calls {
-        println!("at {} s: {call:?}", clock / SECOND);
+        let words = format!("{call:?}");
+        println!("at {} s: {}", clock / SECOND, words.split(' ').next().unwrap_or_default());
         for output in table.call(clock, &call, &mut out)? {
             act(output);
         }
@@ -38,7 +39,7 @@ fn act(output: Output<'_>) {
         Output::Free { lease } => println!("  give lease {lease} back"),
         Output::Retire { link, closes } => {
             println!("  retire link {link}");
-            closes.for_each(|p| println!("    close {} on transport {}", String::from_utf8_lossy(p.addr), p.transport));
+            closes.for_each(|p| println!("    close {p:?}"));
         }
         other => println!("  {other:?}"),
     }
