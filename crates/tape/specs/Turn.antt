@@ -1,16 +1,18 @@
 -- What the first record of a tape and each other one make, as the rules' tape has it (rules Tape).
-use mathlib.Core.Path.{_≡_, refl, sym, ap, _∙_}
+use mathlib.Core.Path.{_≡_, refl, sym, ap, _∙_, subst}
 use mathlib.Core.List.{List, [], _∷_, _++_, append-assoc}
 use Prim.Native.Nat.{ℕ, _+_, _≤_}
 use native.Mathlib.Omega.{arith}
-use lib.ListN.{length, take, drop}
+use lib.Seq.{take-at, take-append-le, length-take-le}
+use lib.ListN.{length, take, drop, length-append, length-drop}
 use Rattle.rules.specs.Base.{Bytes}
-use Rattle.rules.specs.Data.{Table}
+use Rattle.rules.specs.Data.{Table, Result}
 use Rattle.rules.specs.Output.{outputs, doneRecord}
 use Rattle.rules.specs.Entry as rule
 use Rattle.rules.specs.Tape.{calls}
 use Rattle.state.specs.View.{viewTable}
-use Rattle.settle.specs.Contract.{Left, Begun, Called}
+use Rattle.laws.specs.Splice.{splice, Wrote, length-splice}
+use Rattle.settle.specs.Contract.{Left, Begun, Called, ruled, ruledBytes}
 
 -- new's answer, and its Done
 pub record Opens (t s t′ o : Bytes) (n : ℕ) : Type 0 where
@@ -24,6 +26,49 @@ pub record Turns (t s t′ o : Bytes) (r : ℕ) : Type 0 where
   pub written : take r o ≡ outputs ((rule.call s 10_240 (viewTable t)) .step .outs) ++ doneRecord ((rule.call s 10_240 (viewTable t)) .number)
   pub left : Left t′
 
+-- ---- how the two are met
+
+-- what a writer put at the start
+wrote-start : {o ys : Bytes} {at n r : ℕ} {bs : Bytes} → Wrote o at n bs ys r → take r ys ≡ take at o ++ bs
+unfolding splice
+wrote-start {o} {ys} {at} {n} {r} {bs} w =
+    let l : length (take at o) ≡ at = length-take-le at o (omega (arith, w .room)) in
+    ap (λ (y : Bytes). take r y) (w .is ∙ sym (append-assoc (take at o) bs (drop (at + length bs) o)))
+    ∙ take-at (take at o ++ bs) (drop (at + length bs) o) r (length-append (take at o) bs ∙ omega (arith, l, w .size, w .end))
+
+pub opens : {t s t′ o ys : Bytes} {n r : ℕ} → Begun t s t′ n → Wrote o 0 5 (doneRecord n) ys r → Opens t s t′ ys n
+opens {ys = ys} {n} b w = record { begun = b; done = subst (λ (i : ℕ). take i ys ≡ doneRecord n) (w .end) (wrote-start w) }
+
+-- a call's outputs leave room for Done
+pub turn-size : {t lo t′ l : Bytes} {n k : ℕ} (s : Bytes) → Called t s lo t′ l n k → length l ≡ 10_240 → k ≤ 10_240
+turn-size {t} {lo} {k = k} s c h = omega (arith, h, ap length (c .bytes), length-append (ruledBytes t s lo) (drop k lo), c .size)
+
+-- the part of the buffer that is lent to the call
+pub part-size : (o : Bytes) → length o ≡ 10_245 → length (take 10_240 (drop 0 o)) ≡ 10_240
+part-size o h = length-take-le 10_240 o (omega (arith, h))
+
+pub turn-room : {t lo t′ l : Bytes} {n k : ℕ} (s o : Bytes) → Called t s lo t′ l n k → length l ≡ 10_240 → length o ≡ 10_245 → k + 5 ≤ length (l ++ drop 10_240 (drop 0 o))
+turn-room {l = l} s o c h e = omega (arith, turn-size s c h, h, length-append l (drop 10_240 o), length-drop 10_240 o, e)
+
+pub turn-length : {n : ℕ} (l o : Bytes) → length l ≡ 10_240 → length o ≡ 10_245 → n ≡ length (l ++ drop 10_240 (drop 0 o)) → n ≡ length o
+turn-length l o h e g = omega (arith, g, h, e, length-append l (drop 10_240 o), length-drop 10_240 o)
+
+pub turns : {t lo t′ l ys : Bytes} {n k r : ℕ} (s rest : Bytes) → Called t s lo t′ l n k → length lo ≡ 10_240 → length l ≡ 10_240
+    → Wrote (l ++ rest) k 5 (doneRecord n) ys r → Turns t s t′ ys r
+turns {t} {lo} {t′} {l} {ys} {n} {k} {r} s rest c g h w =
+    let e : ruled t s lo ≡ rule.call s 10_240 (viewTable t) = ap (λ (i : ℕ). rule.call s i (viewTable t)) g in
+    let m : k ≤ length l = subst (λ (i : ℕ). k ≤ i) (sym h) (turn-size s c h) in
+    let a : take k (l ++ rest) ≡ ruledBytes t s lo = take-append-le k l rest m ∙ ap (λ (b : Bytes). take k b) (c .bytes) ∙ take-at (ruledBytes t s lo) (drop k lo) k (sym (c .size)) in
+    record {
+      within = omega (arith, w .room, w .end, ap length (w .is), length-splice (l ++ rest) k (doneRecord n) (subst (λ (i : ℕ). k + i ≤ length (l ++ rest)) (sym (w .size)) (w .room)));
+      table = c .table ∙ ap (λ (d : Result). d .step .table) e;
+      written =
+          wrote-start w
+          ∙ ap (λ (b : Bytes). b ++ doneRecord n) (a ∙ ap (λ (d : Result). outputs (d .step .outs)) e)
+          ∙ ap (λ (i : ℕ). outputs ((rule.call s 10_240 (viewTable t)) .step .outs) ++ doneRecord i) (c .number ∙ ap (λ (d : Result). d .number) e);
+      left = c .left;
+    }
+
 -- turns in a row write what the rules write for the records
 pub data Run : Bytes → List Bytes → Bytes → Type 0 where
   end : {t : Bytes} → Run t [] []
@@ -35,5 +80,11 @@ run-calls end = refl
 run-calls (more {t} {w = w} {l = l} s a b) =
     let d = rule.call s 10_240 (viewTable t) in
     ap (λ (x : Bytes). x ++ w) (a .written)
-    ∙ append-assoc (outputs (d .step .outs)) (doneRecord (d .number)) w
-    ∙ ap (λ (x : Bytes). outputs (d .step .outs) ++ (doneRecord (d .number) ++ x)) (run-calls b ∙ ap (λ (x : Table). calls l x) (a .table))
+    ∙ ap (λ (x : Bytes). outputs (d .step .outs) ++ doneRecord (d .number) ++ x) (run-calls b ∙ ap (λ (x : Table). calls l x) (a .table))
+
+-- ---- a loop over the records of a tape: the table stays one for calls, the buffers as long as they were
+pub record Going (t₀ b₀ o₀ t b o : Bytes) : Type 0 where
+  pub left : Left t
+  pub table : length t ≡ length t₀
+  pub buf : length b ≡ length b₀
+  pub out : length o ≡ length o₀

@@ -9,7 +9,7 @@ ghost use Rattle.settle.specs.Contract.{Left, Begun};
 ghost use Rattle.tape.specs.Turn.{Opens, Turns};
 
 // The record that makes the table; its Done stands in the first 5 bytes of the buffer.
-pub fn open(table: &mut [u8], input: &[u8], out: &mut [u8]) -> u8
+pub fn opening(table: &mut [u8], input: &[u8], out: &mut [u8]) -> u8
     requires { ⌜ length (now table) ≡ 45478 ⌝ }
     requires { ⌜ 5 ≤ length (now out) ⌝ }
     ensures { λ r. ⌜ Opens (now (table .entry)) (now (input .entry)) (now (table .exit)) (now (out .exit)) r ⌝ }

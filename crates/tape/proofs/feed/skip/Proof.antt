@@ -1,0 +1,31 @@
+-- `tape::feed::skip` meets its contract.
+use mathlib.Core.Path.{_≡_, refl, _∙_}
+use native.Mathlib.Omega.{arith}
+use lib.ListN.{length}
+use borrow.Author.Needs.{needs}
+use Rattle.tape.proofs.feed.skip.Statement.{statement}
+use Rattle.tape.proofs.feed.skip.Tie as tie
+
+abbrev Inv-loop : tie.InvT-loop
+Inv-loop buf₀ size left₀ buf left = length buf ≡ length buf₀
+
+abbrev μ-loop : tie.MeasureT-loop
+μ-loop buf₀ size left₀ buf left = left
+
+loop-holds : tie.Need-loop-holds Inv-loop μ-loop
+loop-holds c = refl
+
+same-length : tie.Need-same-length Inv-loop μ-loop
+same-length c = c .before .before .before .next-record .kept .0 ∙ c .before .before .before .before .before .before .loop .inv
+
+loop-less : tie.Need-loop-less Inv-loop μ-loop
+loop-less c = c .less .ensures (c .before .before .before .before .before .before .loop-test .taken) (omega (arith, c .before .if1 .left))
+
+loop-again : tie.Need-loop-again Inv-loop μ-loop
+loop-again c = c .before .before .before .before .next-record .kept .0 ∙ c .before .before .before .before .before .before .before .loop .inv
+
+same-length-2 : tie.Need-same-length-2 Inv-loop μ-loop
+same-length-2 c = c .before .loop .inv
+
+pub skip-spec : {M : Type 1} → statement M
+skip-spec = tie.close (tie.spec Inv-loop μ-loop loop-holds (λ c κs. search needs) same-length (λ c. search needs) (λ c κs. search needs) loop-less loop-again same-length-2 (λ c. search needs))

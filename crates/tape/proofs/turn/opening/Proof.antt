@@ -1,0 +1,20 @@
+-- `tape::turn::opening` meets its contract.
+use Rattle.tape.specs.Turn.{opens}
+use borrow.Author.Needs.{needs}
+use Rattle.tape.proofs.turn.opening.Statement.{statement}
+use Rattle.tape.proofs.turn.opening.Tie as tie
+
+put-done-requires : tie.Need-put-done-requires
+put-done-requires c κs = c .before .before .before .before .before .before .before .before .pre .1
+
+same-length : tie.Need-same-length
+same-length c = c .before .before .before .before .before .before .new .kept .0
+
+same-length-2 : tie.Need-same-length-2
+same-length-2 c = c .before .before .put-done .kept .0
+
+returns : tie.Need-returns
+returns c = opens (c .before .before .before .before .before .before .new .ensures) (c .before .before .put-done .ensures)
+
+pub opening-spec : {M : Type 1} → statement M
+opening-spec = tie.close (tie.spec (λ c κs. search needs) put-done-requires same-length same-length-2 returns)

@@ -1,0 +1,30 @@
+-- `tape::turn::turn` meets its contract.
+use mathlib.Core.Path.{sym, _∙_, subst}
+use Prim.Native.Nat.{ℕ, _≤_}
+use denote.Ref.{now}
+use lib.Dec.{lit≤}
+use lib.ListN.{drop}
+use Rattle.tape.specs.Turn.{turns, turn-room, turn-length, part-size}
+use borrow.Author.Needs.{needs}
+use Rattle.tape.proofs.turn.turn.Statement.{statement}
+use Rattle.tape.proofs.turn.turn.Tie as tie
+
+part-call-end : tie.Need-part-call-end
+part-call-end c = subst (λ (n : ℕ). 10240 ≤ n) (sym (c .before .before .before .before .pre .1)) (lit≤ tt)
+
+put-done-requires : tie.Need-put-done-requires
+put-done-requires c κs = turn-room (now (c .before .before .before .before .before .before .before .before .before .before .before .args .input)) (now (c .before .before .before .before .before .before .before .before .before .before .before .args .out)) (c .before .before .before .before .before .call .ensures) (c .before .before .before .before .before .call .kept .1 .1 .0 ∙ part-size (now (c .before .before .before .before .before .before .before .before .before .before .before .args .out)) (c .before .before .before .before .before .before .before .before .before .before .before .pre .1)) (c .before .before .before .before .before .before .before .before .before .before .before .pre .1)
+
+same-length : tie.Need-same-length
+same-length c = c .before .before .before .before .before .before .before .before .call .kept .0
+
+same-length-2 : tie.Need-same-length-2
+same-length-2 c = turn-length (c .before .before .before .before .before .before .before .before .call .last .1 .1 .0) (now (c .before .before .before .before .before .before .before .before .before .before .before .before .before .before .args .out)) (c .before .before .before .before .before .before .before .before .call .kept .1 .1 .0 ∙ part-size (now (c .before .before .before .before .before .before .before .before .before .before .before .before .before .before .args .out)) (c .before .before .before .before .before .before .before .before .before .before .before .before .before .before .pre .1)) (c .before .before .before .before .before .before .before .before .before .before .before .before .before .before .pre .1) (c .before .before .put-done .kept .0)
+
+returns : tie.Need-returns
+returns c =
+    turns (now (c .before .before .before .before .before .before .before .before .before .before .before .before .before .before .args .input)) (drop 10240 (now (c .before .before .before .before .before .before .before .before .before .before .before .before .before .before .args .out))) (c .before .before .before .before .before .before .before .before .call .ensures) (part-size (now (c .before .before .before .before .before .before .before .before .before .before .before .before .before .before .args .out)) (c .before .before .before .before .before .before .before .before .before .before .before .before .before .before .pre .1)) (c .before .before .before .before .before .before .before .before .call .kept .1 .1 .0 ∙ part-size (now (c .before .before .before .before .before .before .before .before .before .before .before .before .before .before .args .out)) (c .before .before .before .before .before .before .before .before .before .before .before .before .before .before .pre .1))
+    (c .before .before .put-done .ensures)
+
+pub turn-spec : {M : Type 1} → statement M
+turn-spec = tie.close (tie.spec (λ c. search needs) (λ c. search needs) part-call-end (λ c κs. search needs) put-done-requires same-length same-length-2 returns)
