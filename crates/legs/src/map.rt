@@ -2,10 +2,10 @@
 use crate::at::link_at;
 use crate::entry::put_leg;
 use crate::leg::Leg;
-use memory::region::count;
-use memory::region::remove_chunk;
 use node_addr::Found;
 use node_addr::LinkNo;
+use regions::count;
+use regions::remove_chunk;
 ghost use mathlib.Core.Path.{_≡_};
 ghost use mathlib.Core.List.{[], _∷_, _++_};
 ghost use Prim.Native.Nat.{_<_};
