@@ -41,6 +41,15 @@ pub fn table(name: &str, from: u64, to: u64, calls: Option<usize>) -> Option<Vec
     Some(counts.text().into_bytes())
 }
 
+/// The same of given tapes.
+pub fn of(tapes: &[&[u8]]) -> Vec<u8> {
+    let mut counts = Counts::expected();
+    for bytes in tapes {
+        counts.tape(bytes);
+    }
+    counts.text().into_bytes()
+}
+
 impl Counts {
     /// What must occur, at nought.
     fn expected() -> Self {

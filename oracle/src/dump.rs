@@ -59,7 +59,7 @@ pub fn dump(node: &Node) -> Vec<u8> {
     w.bytes
 }
 
-fn settings(w: &mut Writer, p: &Params) {
+pub fn settings(w: &mut Writer, p: &Params) {
     let spans = [p.unheard, p.interval, p.silentbase, p.silentcap, p.horizon, p.handshake, p.resend];
     for d in spans {
         w.u64(nanos(d));

@@ -38,11 +38,13 @@ mod damage;
 mod dump;
 mod fields;
 mod generate;
+mod layout;
 mod node;
 mod plan;
 mod profile;
 mod random;
 mod record;
+mod stored;
 mod tape;
 mod write;
 
@@ -51,10 +53,14 @@ use std::process::ExitCode;
 
 const USAGE: &str = "usage: oracle run < tape > out
        oracle table < tape > dump
+       oracle layout < tape > table  (the same in the bytes of a lent table)
        oracle generate PROFILE SEED [CALLS] > tape
        oracle cover PROFILE|all FROM TO [CALLS]
        oracle cases PROFILE FROM TO CALLS  (a line for each seed: seed, tape, output, dump in hexadecimal)
        oracle profiles
+       oracle replay-set > tapes  (stored tapes)
+       oracle replay < tapes > what settle-tape writes for each
+       oracle replay-cover < tapes > what they reach
        oracle fields-set > cases  (slices for readers of records)
        oracle fields < cases > what is read in each";
 
@@ -77,6 +83,10 @@ fn run(words: &[&str]) -> Option<Vec<u8>> {
     match words {
         ["run"] => Some(tape::run(&input())),
         ["table"] => Some(dump::after(&input())),
+        ["layout"] => Some(layout::after(&input())),
+        ["replay-set"] => stored::set(),
+        ["replay"] => stored::run(&input()),
+        ["replay-cover"] => stored::reached(&input()),
         ["fields-set"] => Some(fields::set()),
         ["fields"] => fields::told(&input()),
         ["profiles"] => Some(format!("{}\n", profile::NAMES.join(" ")).into_bytes()),

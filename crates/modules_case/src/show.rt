@@ -42,6 +42,15 @@ pub fn place(f: Found) {
     }
 }
 
+// A number where there is one, else `-`.
+pub fn perhaps(some: bool, v: u64) {
+    if some {
+        number(v);
+    } else {
+        nothing();
+    }
+}
+
 pub fn end_line() {
     io::write_all(1, &[b'\n']);
 }

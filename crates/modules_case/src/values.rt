@@ -5,6 +5,7 @@ use node_addr::Message;
 use node_addr::NodeAddr;
 use node_addr::Pair;
 use node_addr::TransportId;
+use params::Params;
 ghost use Rattle.node_addr.specs.View.{FitPair, FitMessage};
 
 pub fn node(b: u8) -> NodeAddr {
@@ -39,5 +40,23 @@ pub fn message(b: u8) -> Message
     Message {
         len: 1,
         bytes: bytes,
+    }
+}
+
+// Settings by small numbers.
+pub fn settings() -> Params {
+    Params {
+        unheard: 10,
+        interval: 100,
+        replays: 2,
+        silent: 2,
+        silentbase: 30,
+        silentcap: 100,
+        horizon: 500,
+        counted: 2,
+        handshake: 100,
+        resend: 10,
+        resends: 3,
+        pending: 1000,
     }
 }

@@ -3,23 +3,29 @@ use mathlib.Core.Path.{_≡_, refl, sym, ap, _∙_, subst}
 use mathlib.Core.Bool.{Bool, true, false}
 use mathlib.Core.Option.{Option, none, some}
 use mathlib.Core.List.{List, [], _∷_, _++_}
-use Prim.Native.Nat.{ℕ, _+_, _≤_, _<_}
+use Prim.Native.Nat.{ℕ, suc, _+_, _≤_, _<_}
 use native.Mathlib.Nat.{zero-add}
 use native.Mathlib.Omega.{arith}
-use borrow.Author.Tests.{lt-ltb, le-ltb}
+use borrow.Author.Tests.{lt-ltb, le-ltb, ne-eqb}
 use lib.Dec.{eqb, ltb}
-use lib.ListN.{length, take, drop}
+use lib.ListN.{length, take, drop, getD}
+use mir.Syntax.{w8}
+use mir.Val.{Fits}
 use Rattle.rules.specs.Base.{if_then_else_, option, Bytes, All}
 use Rattle.rules.specs.Data.{Table, Output, Result}
 use Rattle.rules.specs.Output.{outputs}
+use Rattle.rules.specs.Time.{outOfRange}
 use Rattle.rules.specs.Settle.{refuse, step}
-use Rattle.rules.specs.Record.{Timed, readCall}
+use Rattle.rules.specs.Record.{Timed, readCall, readNew}
 use Rattle.rules.specs.Entry.{Start, Made, Refused, newTable}
 use Rattle.rules.specs.Entry as rule
 use Rattle.rules.specs.Bounds.{IsByte, Bounds}
 use Rattle.rules.proofs.Bounds.{bounds-new, bounds-call}
 use Rattle.rules.proofs.Size as size
 use Rattle.laws.specs.Splice.{splice}
+use Rattle.params.specs.View.{viewParams}
+use Rattle.begin.specs.Begin.{News, beginOf, news-start}
+use Rattle.begin.specs.declared.ReadNew as readnew
 use Rattle.output.specs.Write.{Puts}
 use Rattle.state.specs.View.{viewTable, FitTable, Told}
 use Rattle.steps.specs.Did.{Space, Did, Ruled, ruled-refused, ruled-is, space-result}
@@ -62,3 +68,29 @@ called {t} {o} {k = k} s b l r =
       size = e;
       bytes = w .is ∙ ap (λ (i : ℕ). ruledBytes t s o ++ drop i o) (sym (w .end));
     }
+
+-- ---- new
+
+-- settings that were accepted are within range
+pub in-range : {s : Bytes} {r : readnew.ReadNew} → News s r → r .number ≡ 0 → outOfRange (viewParams (r .params)) ≡ false
+in-range {s} {r} w e =
+    let a : readNew s ≡ some (beginOf (w .clock) r) = w .is ∙ rw e in
+    let b : _≡_ {A = ℕ} 0 (if outOfRange (viewParams (r .params)) then 1 else 0) = sym e ∙ w .number ∙ rw a in
+    go (outOfRange (viewParams (r .params))) b
+  where
+    go : (o : Bool) → _≡_ {A = ℕ} 0 (if o then 1 else 0) → o ≡ false
+    go true h = absurd (omega (arith, h))
+    go false h = refl
+
+pub begun-made : {t s t′ : Bytes} {r : readnew.ReadNew} → News s r → r .number ≡ 0 → All IsByte s → Told t′ (newTable (r .me .0) (r .first) (viewParams (r .params))) → Begun t s t′ 0
+begun-made {s = s} {t′} {r} w e b k =
+    let m : rule.new s ≡ Made (viewTable t′) = news-start w ∙ rw (e, k .shows) in
+    record { is = m; refused = λ z. absurd (z refl); left = λ z. record { fit = k .fit; bounds = bounds-new s (viewTable t′) b m } }
+
+pub begun-refused : {t s : Bytes} {r : readnew.ReadNew} → News s r → (r .number ≡ 0 → ⊥) → Begun t s t (r .number)
+begun-refused {r = r} w h = record { is = news-start w ∙ rw (ne-eqb (r .number) 0 h); refused = λ z. refl; left = λ e. absurd (h e) }
+
+-- ---- what is known of each byte of a slice
+pub all-bytes : (s : Bytes) → ((i : ℕ) → Fits w8 (getD s i 0)) → All IsByte s
+all-bytes [] f = tt
+all-bytes (b ∷ s) f = (f 0 .fits, all-bytes s (λ i. f (suc i)))

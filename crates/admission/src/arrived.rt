@@ -1,0 +1,46 @@
+// A msg1 before it is read: what is known of it by its pair and its bytes.
+use crate::put::put_msg2;
+use memories::Denial;
+use memories::Source;
+use node_addr::Found;
+use node_addr::Message;
+use node_addr::NodeAddr;
+use node_addr::Pair;
+use output::put::put_reject;
+use state::ask::full;
+use state::ask::stored;
+ghost use mathlib.Core.Option.{none};
+ghost use mathlib.Core.List.{[], _∷_};
+ghost use Rattle.rules.specs.Base.{if_then_else_};
+ghost use Rattle.rules.specs.Data.{Full, Reject};
+ghost use Rattle.rules.specs.Settle as rule;
+ghost use Rattle.node_addr.specs.View.{FitPair, viewPair, FitMessage, viewMessage};
+ghost use Rattle.output.specs.Write.{Puts};
+ghost use Rattle.state.specs.View.{viewTable, FitTable};
+ghost use Rattle.steps.specs.Did.{Space, Did};
+
+// A Reject that names nobody, where Full holds.
+fn put_full(t: &[u8], out: &mut [u8], at: usize) -> usize
+    requires { ⌜ FitTable (now t) ⌝ }
+    requires { ⌜ Space (now out) at (if rule.full (viewTable (now t)) then Reject none Full ∷ [] else []) ⌝ }
+    ensures { λ r. ⌜ Puts (now (out .entry)) at (if rule.full (viewTable (now (t .entry))) then Reject none Full ∷ [] else []) (now (out .exit)) r ⌝ }
+{
+    if full(t) {
+        let nobody = NodeAddr([0u8; 16]);
+        return put_reject(out, at, false, nobody, Source::NotHeld, Denial::Full);
+    }
+    at
+}
+
+pub fn arrived(t: &[u8], out: &mut [u8], at: usize, from: Pair, bytes: Message) -> usize
+    requires { ⌜ FitTable (now t) ⌝ }
+    requires { ⌜ FitPair from ⌝ }
+    requires { ⌜ FitMessage bytes ⌝ }
+    requires { ⌜ Space (now out) at ((rule.arrived (viewPair from) (viewMessage bytes) (viewTable (now t))) .outs) ⌝ }
+    ensures { λ r. ⌜ Did (now (out .entry)) at (now (t .entry)) (now (out .exit)) r (rule.arrived (viewPair from) (viewMessage bytes) (viewTable (now (t .entry)))) ⌝ }
+{
+    match stored(t, from, bytes) {
+        Found::At(i) => put_msg2(t, out, at, i, true),
+        Found::Nothing => put_full(t, out, at),
+    }
+}

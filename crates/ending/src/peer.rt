@@ -1,0 +1,144 @@
+// The end of a holder.
+use links::close::no_closes;
+use node_addr::Found;
+use node_addr::LinkNo;
+use node_addr::NodeAddr;
+use codes::Why;
+use lists::put_retire;
+use output::put::put_remove;
+use output::put::put_retry;
+use state::gate::ended;
+use state::head::params_of;
+use state::link::drop_link;
+use state::link::retire_link;
+use state::peer::drop_held;
+use state::peer::find_held;
+use state::peer::held_answered;
+use state::peer::held_epoch;
+use state::peer::held_heard;
+use state::peer::held_link;
+use state::peer::held_setup;
+ghost use mathlib.Core.Path.{_≡_};
+ghost use mathlib.Core.Option.{some};
+ghost use Prim.Native.Nat.{_<_};
+ghost use lib.ListN.{length};
+ghost use Rattle.rules.specs.Settle as rule;
+ghost use Rattle.codes.specs.Codes.{whyOf};
+ghost use Rattle.state.specs.View.{viewTable, FitTable, Told, nthHeld};
+ghost use Rattle.steps.specs.Did.{Space, Did};
+ghost use Rattle.steps.specs.Sound.{Ready};
+ghost use Rattle.ending.specs.Peer.{retires};
+
+// Whether the retirement of the link lists what is to close.
+pub fn closes(w: Why) -> bool
+    ensures { λ r. ⌜ r ≡ rule.closes (whyOf w) ⌝ }
+{
+    match w {
+        Why::Restart => false,
+        Why::Replacement => false,
+        Why::OwnRestart => false,
+        Why::Ended => false,
+        Why::Orphaned => true,
+        Why::Disconnect => false,
+        Why::Dead => false,
+        Why::Admin => true,
+        Why::Closed => true,
+    }
+}
+
+// Whether the peer is to be dialed again.
+pub fn retries(w: Why) -> bool
+    ensures { λ r. ⌜ r ≡ rule.retries (whyOf w) ⌝ }
+{
+    match w {
+        Why::Restart => false,
+        Why::Replacement => false,
+        Why::OwnRestart => false,
+        Why::Ended => false,
+        Why::Orphaned => false,
+        Why::Disconnect => true,
+        Why::Dead => true,
+        Why::Admin => false,
+        Why::Closed => false,
+    }
+}
+
+// What is remembered of the i-th holder, which goes: unheard, it counts as a silence.
+pub fn part(t: &mut [u8], i: usize, peer: NodeAddr, clock: u64)
+    requires { ⌜ Ready (now t) ⌝ }
+    requires { ⌜ i < length (viewTable (now t) .held) ⌝ }
+    requires { ⌜ rule.heldAt (peer .0) (viewTable (now t)) ≡ some (nthHeld (viewTable (now t)) i) ⌝ }
+    ensures { λ r. ⌜ Told (now (t .exit)) (rule.withGates (rule.parted clock (nthHeld (viewTable (now (t .entry))) i) (viewTable (now (t .entry)))) (viewTable (now (t .entry)))) ⌝ }
+{
+    if held_heard(t, i) {
+        return;
+    }
+    let epoch = held_epoch(t, i);
+    let answered = held_answered(t, i);
+    let setup = held_setup(t, i);
+    let c = params_of(t);
+    ended(t, peer, epoch, answered, setup, clock, c);
+}
+
+// Link n goes, and its retirement is written, with what is to close or without.
+fn retire(t: &mut [u8], out: &mut [u8], at: usize, n: LinkNo, lists: bool) -> usize
+    requires { ⌜ FitTable (now t) ⌝ }
+    requires { ⌜ Space (now out) at ((retires (n .0) lists (viewTable (now t))) .outs) ⌝ }
+    ensures { λ r. ⌜ Did (now (out .entry)) at (now (t .exit)) (now (out .exit)) r (retires (n .0) lists (viewTable (now (t .entry)))) ⌝ }
+{
+    if lists {
+        let c = retire_link(t, n);
+        return put_retire(out, at, n, c);
+    }
+    drop_link(t, n);
+    let c = no_closes();
+    put_retire(out, at, n, c)
+}
+
+// The i-th holder, which is the peer's, goes with its link.
+pub fn remove_at(
+    t: &mut [u8],
+    out: &mut [u8],
+    at: usize,
+    i: usize,
+    peer: NodeAddr,
+    why: Why,
+    clock: u64,
+) -> usize
+    requires { ⌜ Ready (now t) ⌝ }
+    requires { ⌜ i < length (viewTable (now t) .held) ⌝ }
+    requires { ⌜ rule.heldAt (peer .0) (viewTable (now t)) ≡ some (nthHeld (viewTable (now t)) i) ⌝ }
+    requires { ⌜ Space (now out) at ((rule.removed clock (peer .0) (whyOf why) (nthHeld (viewTable (now t)) i) (viewTable (now t))) .outs) ⌝ }
+    ensures { λ r. ⌜ Did (now (out .entry)) at (now (t .exit)) (now (out .exit)) r (rule.removed clock (peer .0) (whyOf why) (nthHeld (viewTable (now (t .entry))) i) (viewTable (now (t .entry)))) ⌝ }
+{
+    let n = held_link(t, i);
+    let lists = closes(why);
+    let again = retries(why);
+    part(t, i, peer, clock);
+    drop_held(t, peer);
+    let a = put_remove(out, at, peer, why);
+    let b = retire(t, out, a, n, lists);
+    if again {
+        return put_retry(out, b, peer);
+    }
+    b
+}
+
+// The peer goes with its link, if it is held.
+pub fn remove(
+    t: &mut [u8],
+    out: &mut [u8],
+    at: usize,
+    peer: NodeAddr,
+    why: Why,
+    clock: u64,
+) -> usize
+    requires { ⌜ Ready (now t) ⌝ }
+    requires { ⌜ Space (now out) at ((rule.remove clock (peer .0) (whyOf why) (viewTable (now t))) .outs) ⌝ }
+    ensures { λ r. ⌜ Did (now (out .entry)) at (now (t .exit)) (now (out .exit)) r (rule.remove clock (peer .0) (whyOf why) (viewTable (now (t .entry)))) ⌝ }
+{
+    match find_held(t, peer) {
+        Found::At(i) => remove_at(t, out, at, i, peer, why, clock),
+        Found::Nothing => at,
+    }
+}

@@ -1,0 +1,13 @@
+-- The region is kept.
+use borrow.Author.Needs.{needs}
+use Rattle.gates_case.specs.Kept.{kept-heard}
+use Rattle.gates_case.proofs.change.hear.Statement.{statement}
+use Rattle.gates_case.proofs.change.hear.Tie as tie
+
+returns : tie.Need-returns
+returns c =
+    let d = c .before .before in
+    kept-heard (d .before .before .before .before .pre) _ (d .heard .ensures .0) (d .heard .ensures .1)
+
+pub hear-spec : {M : Type 1} → statement M
+hear-spec = tie.close (tie.spec (λ c κs. search needs) (λ c κs. search needs) (λ c. search needs) returns)

@@ -1,0 +1,25 @@
+-- `hello::msg1::rekey` meets its contract.
+use mathlib.Core.Path.{_∙_}
+use Rattle.steps.specs.Did.{wrote-length}
+use Rattle.hello.specs.Msg1.{rekey-room, rekey-free, rekey-puts}
+use borrow.Author.Needs.{needs}
+use Rattle.hello.proofs.msg1.rekey.Statement.{statement}
+use Rattle.hello.proofs.msg1.rekey.Tie as tie
+
+attributed-requires : tie.Need-attributed-requires
+attributed-requires c κs = (c .before .before .before .before .pre .0, (c .before .before .before .before .pre .1 .0, c .before .before .before .before .pre .1 .1 .0))
+
+put-rekey-requires : tie.Need-put-rekey-requires
+put-rekey-requires c κs = rekey-room (c .before .attributed .ensures) (search needs) (c .before .before .before .before .before .before .pre .1 .1 .1)
+
+put-free-requires : tie.Need-put-free-requires
+put-free-requires c κs = rekey-free (c .before .before .before .before .before .attributed .ensures) (c .before .before .before .before .before .before .before .before .before .before .pre .1 .1 .1) (c .before .before .before .put-rekey .ensures)
+
+same-length : tie.Need-same-length
+same-length c = wrote-length (c .before .before .put-free .ensures) ∙ wrote-length (c .before .before .before .before .before .before .put-rekey .ensures)
+
+returns : tie.Need-returns
+returns c = rekey-puts (c .before .before .before .before .before .before .before .before .attributed .ensures) (c .before .before .before .before .before .before .put-rekey .ensures) (c .before .before .put-free .ensures)
+
+pub rekey-spec : {M : Type 1} → statement M
+rekey-spec = tie.close (tie.spec attributed-requires put-rekey-requires put-free-requires same-length returns)

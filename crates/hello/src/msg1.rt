@@ -1,0 +1,158 @@
+// The calls of a msg1: one that came before is answered as then, one of the same session is a rekey, any other asks to be admitted.
+use crate::admit::admit;
+use admission::put::put_msg2;
+use calls::Call;
+use memories::Source;
+use node_addr::Found;
+use output::put::put_free;
+use output::put::put_rekey;
+use places::exhausted;
+use state::ask::attributed;
+use state::ask::stored;
+use state::peer::find_held;
+use state::peer::held_epoch;
+use steps::Answer;
+ghost use mathlib.Core.Path.{_≡_};
+ghost use mathlib.Core.Bool.{true};
+ghost use mathlib.Core.Option.{none, some};
+ghost use mathlib.Core.List.{[], _∷_};
+ghost use Prim.Native.Nat.{_+_, _<_, _^_};
+ghost use lib.ListN.{length};
+ghost use Rattle.rules.specs.Data as shape;
+ghost use Rattle.rules.specs.Data.{Output, Rekey, Free};
+ghost use Rattle.rules.specs.Settle as rule;
+ghost use Rattle.node_addr.specs.View.{FitPair, viewPair, FitMessage};
+ghost use Rattle.legs.specs.At.{answerOf};
+ghost use Rattle.calls.specs.Call.{helloOf};
+ghost use Rattle.output.specs.Write.{Puts};
+ghost use Rattle.state.specs.View.{viewTable, FitTable, nthLeg, nthHeld};
+ghost use Rattle.steps.specs.Did.{Space, Ruled};
+ghost use Rattle.steps.specs.Sound.{Ready};
+
+// The msg2 of the i-th leg once more; the lease of the msg1 is freed.
+fn repeat(t: &[u8], out: &mut [u8], at: usize, i: usize, lease: u32) -> usize
+    requires { ⌜ FitTable (now t) ⌝ }
+    requires { ⌜ i < length (viewTable (now t) .legs) ⌝ }
+    requires { ⌜ Space (now out) at (Output.Answer (nthLeg (viewTable (now t)) i .link) true (answerOf (nthLeg (viewTable (now t)) i) .msg2) ∷ Free lease ∷ []) ⌝ }
+    ensures { λ r. ⌜ Puts (now (out .entry)) at (Output.Answer (nthLeg (viewTable (now (t .entry))) i .link) true (answerOf (nthLeg (viewTable (now (t .entry))) i) .msg2) ∷ Free lease ∷ []) (now (out .exit)) r ⌝ }
+{
+    let a = put_msg2(t, out, at, i, true);
+    put_free(out, a, lease)
+}
+
+// The i-th held peer rekeys.
+fn rekey(t: &[u8], out: &mut [u8], at: usize, i: usize, h: Call) -> usize
+    requires { ⌜ FitTable (now t) ⌝ }
+    requires { ⌜ i < length (viewTable (now t) .held) ⌝ }
+    requires { ⌜ FitPair (h .pair) ⌝ }
+    requires { ⌜ Space (now out) at (Rekey (h .peer .0) (rule.attributed (nthHeld (viewTable (now t)) i) (viewPair (h .pair)) (viewTable (now t))) (h .flag) ∷ Free (h .lease) ∷ []) ⌝ }
+    ensures { λ r. ⌜ Puts (now (out .entry)) at (Rekey (h .peer .0) (rule.attributed (nthHeld (viewTable (now (t .entry))) i) (viewPair (h .pair)) (viewTable (now (t .entry)))) (h .flag) ∷ Free (h .lease) ∷ [])
+        (now (out .exit)) r ⌝ }
+{
+    let peer = h.peer;
+    let pair = h.pair;
+    let on_link = attributed(t, i, pair);
+    let a = put_rekey(out, at, peer, on_link, h.flag);
+    put_free(out, a, h.lease)
+}
+
+// The i-th holder is the peer's: the same epoch is a rekey, another a restart.
+fn held_msg1(t: &mut [u8], out: &mut [u8], at: usize, i: usize, h: Call, clock: u64) -> Answer
+    requires { ⌜ Ready (now t) ⌝ }
+    requires { ⌜ FitPair (h .pair) ⌝ }
+    requires { ⌜ FitMessage (h .message) ⌝ }
+    requires { ⌜ FitMessage (h .msg2) ⌝ }
+    requires { ⌜ viewTable (now t) .next + 1 < 2 ^ 64 ⌝ }
+    requires { ⌜ rule.stored (helloOf h .from) (helloOf h .bytes) (viewTable (now t)) ≡ none ⌝ }
+    requires { ⌜ i < length (viewTable (now t) .held) ⌝ }
+    requires { ⌜ rule.heldAt (h .peer .0) (viewTable (now t)) ≡ some (nthHeld (viewTable (now t)) i) ⌝ }
+    requires { ⌜ Space (now out) at ((rule.msg1 clock (helloOf h) (h .flag) (viewTable (now t))) .step .outs) ⌝ }
+    ensures { λ r. ⌜ Ruled (now (t .entry)) (now (out .entry)) at (now (t .exit)) (now (out .exit)) (r .number) (r .len)
+        (rule.msg1 clock (helloOf h) (h .flag) (viewTable (now (t .entry)))) ⌝ }
+{
+    let e = held_epoch(t, i);
+    if e != h.epoch {
+        return admit(t, out, at, h, Source::Restart, clock);
+    }
+    let len = rekey(t, out, at, i, h);
+    Answer {
+        number: 0,
+        len: len,
+    }
+}
+
+// No msg2 is stored for it.
+fn new_msg1(t: &mut [u8], out: &mut [u8], at: usize, h: Call, clock: u64) -> Answer
+    requires { ⌜ Ready (now t) ⌝ }
+    requires { ⌜ FitPair (h .pair) ⌝ }
+    requires { ⌜ FitMessage (h .message) ⌝ }
+    requires { ⌜ FitMessage (h .msg2) ⌝ }
+    requires { ⌜ viewTable (now t) .next + 1 < 2 ^ 64 ⌝ }
+    requires { ⌜ rule.stored (helloOf h .from) (helloOf h .bytes) (viewTable (now t)) ≡ none ⌝ }
+    requires { ⌜ Space (now out) at ((rule.msg1 clock (helloOf h) (h .flag) (viewTable (now t))) .step .outs) ⌝ }
+    ensures { λ r. ⌜ Ruled (now (t .entry)) (now (out .entry)) at (now (t .exit)) (now (out .exit)) (r .number) (r .len)
+        (rule.msg1 clock (helloOf h) (h .flag) (viewTable (now (t .entry)))) ⌝ }
+{
+    let peer = h.peer;
+    match find_held(t, peer) {
+        Found::At(i) => held_msg1(t, out, at, i, h, clock),
+        Found::Nothing => admit(t, out, at, h, Source::NotHeld, clock),
+    }
+}
+
+// A number is left for one more link.
+fn numbered_msg1(t: &mut [u8], out: &mut [u8], at: usize, h: Call, clock: u64) -> Answer
+    requires { ⌜ Ready (now t) ⌝ }
+    requires { ⌜ FitPair (h .pair) ⌝ }
+    requires { ⌜ FitMessage (h .message) ⌝ }
+    requires { ⌜ FitMessage (h .msg2) ⌝ }
+    requires { ⌜ viewTable (now t) .next + 1 < 2 ^ 64 ⌝ }
+    requires { ⌜ Space (now out) at ((rule.msg1 clock (helloOf h) (h .flag) (viewTable (now t))) .step .outs) ⌝ }
+    ensures { λ r. ⌜ Ruled (now (t .entry)) (now (out .entry)) at (now (t .exit)) (now (out .exit)) (r .number) (r .len)
+        (rule.msg1 clock (helloOf h) (h .flag) (viewTable (now (t .entry)))) ⌝ }
+{
+    let pair = h.pair;
+    let bytes = h.message;
+    match stored(t, pair, bytes) {
+        Found::At(i) => {
+            let len = repeat(t, out, at, i, h.lease);
+            Answer {
+                number: 0,
+                len: len,
+            }
+        }
+        Found::Nothing => new_msg1(t, out, at, h, clock),
+    }
+}
+
+// A msg1 that was read and verified; the flag says whether its peer is reachable.
+pub fn msg1(t: &mut [u8], out: &mut [u8], at: usize, h: Call, clock: u64) -> Answer
+    requires { ⌜ Ready (now t) ⌝ }
+    requires { ⌜ FitPair (h .pair) ⌝ }
+    requires { ⌜ FitMessage (h .message) ⌝ }
+    requires { ⌜ FitMessage (h .msg2) ⌝ }
+    requires { ⌜ Space (now out) at ((rule.step clock (shape.Call.Msg1 (helloOf h) (h .flag)) (viewTable (now t))) .step .outs) ⌝ }
+    ensures { λ r. ⌜ Ruled (now (t .entry)) (now (out .entry)) at (now (t .exit)) (now (out .exit)) (r .number) (r .len)
+        (rule.step clock (shape.Call.Msg1 (helloOf h) (h .flag)) (viewTable (now (t .entry)))) ⌝ }
+{
+    if exhausted(t) {
+        return Answer { number: 4, len: at };
+    }
+    numbered_msg1(t, out, at, h, clock)
+}
+
+// A msg1 that is to replace the peer's session.
+pub fn replacement(t: &mut [u8], out: &mut [u8], at: usize, h: Call, clock: u64) -> Answer
+    requires { ⌜ Ready (now t) ⌝ }
+    requires { ⌜ FitPair (h .pair) ⌝ }
+    requires { ⌜ FitMessage (h .message) ⌝ }
+    requires { ⌜ FitMessage (h .msg2) ⌝ }
+    requires { ⌜ Space (now out) at ((rule.step clock (shape.Call.Replacement (helloOf h)) (viewTable (now t))) .step .outs) ⌝ }
+    ensures { λ r. ⌜ Ruled (now (t .entry)) (now (out .entry)) at (now (t .exit)) (now (out .exit)) (r .number) (r .len)
+        (rule.step clock (shape.Call.Replacement (helloOf h)) (viewTable (now (t .entry)))) ⌝ }
+{
+    if exhausted(t) {
+        return Answer { number: 4, len: at };
+    }
+    admit(t, out, at, h, Source::Replacement, clock)
+}

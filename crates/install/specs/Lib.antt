@@ -1,0 +1,4 @@
+pub mod Install
+pub mod Dialed
+pub mod Sent
+pub mod Msg2

@@ -1,0 +1,24 @@
+// A leg becomes a holder.
+use held::record::Held;
+use state::leg::drop_leg;
+use state::link::hold_link;
+use state::peer::insert_held;
+ghost use Prim.Native.Nat.{_<_};
+ghost use lib.ListN.{length};
+ghost use Rattle.held.specs.View.{FitRec, viewRec};
+ghost use Rattle.state.specs.View.{viewTable, FitTable, Told};
+ghost use Rattle.install.specs.Install.{seated};
+
+// The leg on the holder's link goes, the link is the peer's, and the peer is held.
+pub(crate) fn install(t: &mut [u8], h: Held)
+    requires { ⌜ FitTable (now t) ⌝ }
+    requires { ⌜ FitRec h ⌝ }
+    requires { ⌜ length (viewTable (now t) .held) < 32 ⌝ }
+    ensures { λ r. ⌜ Told (now (t .exit)) (seated (viewRec h) (viewTable (now (t .entry)))) ⌝ }
+{
+    let n = h.link;
+    let peer = h.peer;
+    drop_leg(t, n);
+    hold_link(t, n, peer);
+    insert_held(t, h);
+}

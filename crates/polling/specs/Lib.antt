@@ -1,0 +1,5 @@
+pub mod Loop
+pub mod Poll
+pub mod Close
+pub mod Clear
+pub mod Remove

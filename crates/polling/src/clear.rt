@@ -1,0 +1,13 @@
+// All legs at once. The offsets are those of crate state.
+use memory::write::clear;
+ghost use mathlib.Core.List.{[]};
+ghost use Rattle.rules.specs.Settle as settle;
+ghost use Rattle.state.specs.View.{viewTable, FitTable, Told};
+
+// No legs are left.
+pub fn clear_legs(t: &mut [u8])
+    requires { ⌜ FitTable (now t) ⌝ }
+    ensures { λ r. ⌜ Told (now (t .exit)) (settle.withLegs [] (viewTable (now (t .entry)))) ⌝ }
+{
+    clear(&mut t[9603..20836], 0, 11233);
+}

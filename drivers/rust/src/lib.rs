@@ -1,0 +1,158 @@
+//! The settle table for Rust drivers: a [`Table`], [`Call`]s in, [`Output`]s out.
+//!
+//! The table says which peer is held on which link. It has no clock, no sockets and no memory but its own 45,478 bytes; the driver
+//! sends, dials, closes connections and gives leases back as the outputs say. What holds for every order of calls is proved of the
+//! linked library: see `crates/settle/specs/Promise.antt` in the repository.
+//!
+//! ```
+//! use settle::{Call, Output, Pair, Peer, Table, OUT};
+//!
+//! let mut table = Table::new(Peer([0; 16]), 1, None)?;
+//! let mut out = [0; OUT];
+//! let to = Pair { transport: 7, addr: b"north" };
+//! let dial = Call::Dial { peer: Peer([2; 16]), to, msg1: b"hello", lease: 9 };
+//! let mut outputs = table.call(0, &dial, &mut out)?;
+//! assert_eq!(outputs.next(), Some(Output::Opened { link: 1 }));
+//! assert_eq!(outputs.next(), None);
+//! let outputs: Vec<_> = table.call(0, &Call::Abandon { link: 1 }, &mut out)?.collect();
+//! assert_eq!(outputs[0], Output::Free { lease: 9 });
+//! # Ok::<(), settle::Refusal>(())
+//! ```
+#![forbid(unsafe_op_in_unsafe_fn)]
+
+mod output;
+mod record;
+
+pub use output::{Build, Output, Outputs, Pairs, Reason, Source, Transition};
+pub use record::{Call, Hello, Proven, Settings, Why};
+
+use std::fmt;
+
+/// Bytes of a table.
+pub const SIZE: usize = 45_478;
+
+/// Bytes of buffer that are enough for every call; fewer are refused.
+pub const OUT: usize = 10_240;
+
+#[repr(C)]
+struct Answer {
+    number: u8,
+    len: usize,
+}
+
+unsafe extern "C" {
+    fn settle_table_size() -> usize;
+    fn settle_new(table: *mut u8, size: usize, record: *const u8, n: usize) -> u8;
+    fn settle_call(table: *mut u8, size: usize, record: *const u8, n: usize, out: *mut u8, m: usize) -> Answer;
+}
+
+/// The address of a node.
+#[derive(Clone, Copy, Debug, PartialEq, Eq, PartialOrd, Ord, Hash)]
+pub struct Peer(pub [u8; 16]);
+
+/// A connection: a transport and an address of at most 48 bytes on it.
+#[derive(Clone, Copy, Debug, PartialEq, Eq)]
+pub struct Pair<'a> {
+    pub transport: u32,
+    pub addr: &'a [u8],
+}
+
+/// Why a call or a new was refused. It has then changed nothing, and its lease remains the caller's.
+#[derive(Clone, Copy, Debug, PartialEq, Eq)]
+pub enum Refusal {
+    Settings,
+    Buffer,
+    Record,
+    Numbers,
+    Links,
+    Names,
+    Paths,
+}
+
+impl Refusal {
+    const ALL: [Refusal; 7] = [
+        Refusal::Settings,
+        Refusal::Buffer,
+        Refusal::Record,
+        Refusal::Numbers,
+        Refusal::Links,
+        Refusal::Names,
+        Refusal::Paths,
+    ];
+
+    /// The number of document 01, 1 to 7.
+    pub fn number(self) -> u8 {
+        self as u8 + 1
+    }
+
+    fn of(number: u8) -> Refusal {
+        Refusal::ALL[usize::from(number) - 1]
+    }
+}
+
+impl fmt::Display for Refusal {
+    fn fmt(&self, f: &mut fmt::Formatter<'_>) -> fmt::Result {
+        f.write_str(match self {
+            Refusal::Settings => "the settings are out of range",
+            Refusal::Buffer => "the buffer is under 10,240 bytes",
+            Refusal::Record => "not a record of a call",
+            Refusal::Numbers => "no link number is left",
+            Refusal::Links => "32 links are live",
+            Refusal::Names => "32 peers have a place, and this one has none",
+            Refusal::Paths => "the link has four paths",
+        })
+    }
+}
+
+impl std::error::Error for Refusal {}
+
+/// A settle table. Its bytes are reached by its calls alone, which is what the library asks of a driver.
+pub struct Table {
+    bytes: Box<[u8]>,
+}
+
+impl Table {
+    /// A node that holds nothing. `settings` of `None` takes the default ones.
+    pub fn new(me: Peer, first_link: u64, settings: Option<&Settings>) -> Result<Table, Refusal> {
+        Table::from_record(record::new(me, first_link, settings).bytes())
+    }
+
+    /// The same from the bytes of a record of new.
+    pub fn from_record(record: &[u8]) -> Result<Table, Refusal> {
+        // SAFETY: no argument.
+        assert_eq!(unsafe { settle_table_size() }, SIZE, "the linked library is another version");
+        let mut bytes = vec![0; SIZE].into_boxed_slice();
+        // SAFETY: two slices that do not overlap, lent for the call; the table has its size.
+        let number = unsafe { settle_new(bytes.as_mut_ptr(), SIZE, record.as_ptr(), record.len()) };
+        if number != 0 {
+            return Err(Refusal::of(number));
+        }
+        Ok(Table { bytes })
+    }
+
+    /// Answers one call at a clock reading in nanoseconds.
+    pub fn call<'b>(&mut self, clock: u64, call: &Call<'_>, out: &'b mut [u8]) -> Result<Outputs<'b>, Refusal> {
+        match record::call(clock, call) {
+            Some(record) => self.call_record(record.bytes(), out),
+            None if out.len() < OUT => Err(Refusal::Buffer),
+            None => Err(Refusal::Record),
+        }
+    }
+
+    /// The same from the bytes of a record.
+    pub fn call_record<'b>(&mut self, record: &[u8], out: &'b mut [u8]) -> Result<Outputs<'b>, Refusal> {
+        let (table, size) = (self.bytes.as_mut_ptr(), self.bytes.len());
+        // SAFETY: three slices that do not overlap, lent for the call; the table was made by settle_new, and only settle_call has
+        // changed it since.
+        let a = unsafe { settle_call(table, size, record.as_ptr(), record.len(), out.as_mut_ptr(), out.len()) };
+        if a.number != 0 {
+            return Err(Refusal::of(a.number));
+        }
+        Ok(Outputs::of(&out[..a.len]))
+    }
+
+    /// The table's bytes: equal tables have equal bytes.
+    pub fn bytes(&self) -> &[u8] {
+        &self.bytes
+    }
+}

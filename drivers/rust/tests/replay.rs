@@ -1,0 +1,67 @@
+//! The stored tapes of crates/replay through the wrapper: the bytes are those that the original table wrote.
+use settle::{OUT, Table};
+use std::{fs, path::PathBuf};
+
+fn stored(name: &str) -> Vec<u8> {
+    let file = PathBuf::from(env!("CARGO_MANIFEST_DIR")).join("../../crates/replay").join(name);
+    fs::read(file).expect("the stored tapes are in the repository")
+}
+
+fn done(number: u8) -> [u8; 5] {
+    [0, 3, 1, 0, number]
+}
+
+/// The first record of a tape, a cut one as it is, and the rest.
+fn first(tape: &[u8]) -> (&[u8], &[u8]) {
+    let size = match tape {
+        [a, b, ..] => 2 + usize::from(u16::from_be_bytes([*a, *b])),
+        _ => tape.len(),
+    };
+    tape.split_at(size.min(tape.len()))
+}
+
+/// What settle-tape writes.
+fn run(tape: &[u8], told: &mut Vec<u8>) {
+    if tape.is_empty() {
+        return;
+    }
+    let (record, mut rest) = first(tape);
+    let mut table = match Table::from_record(record) {
+        Ok(table) => table,
+        Err(e) => return told.extend(done(e.number())),
+    };
+    told.extend(done(0));
+    let mut out = vec![0; OUT];
+    while !rest.is_empty() {
+        let (record, more) = first(rest);
+        rest = more;
+        let before = table.bytes().to_vec();
+        match table.call_record(record, &mut out) {
+            Ok(outputs) => {
+                told.extend(outputs.bytes());
+                // each reads as an output
+                assert_eq!(outputs.clone().count() > 0, !outputs.bytes().is_empty());
+                told.extend(done(0));
+            }
+            Err(e) => {
+                assert!(before == table.bytes(), "a refusal changes nothing");
+                told.extend(done(e.number()));
+            }
+        }
+    }
+}
+
+#[test]
+fn the_original_answers_the_same() {
+    let set = stored("stdin");
+    let mut rest = &set[..];
+    let (mut told, mut tapes) = (Vec::new(), 0);
+    while let Some((head, more)) = rest.split_first_chunk::<4>() {
+        let (tape, more) = more.split_at(u32::from_be_bytes(*head) as usize);
+        run(tape, &mut told);
+        tapes += 1;
+        rest = more;
+    }
+    assert_eq!(tapes, 236);
+    assert!(told == stored("stdout"), "the bytes differ");
+}
