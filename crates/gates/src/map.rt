@@ -1,8 +1,8 @@
 // The memories of a region: counted, found by peer, stored.
-use crate::load::get_memory;
-use crate::put::put_memory;
 use memories::Memory;
 use memories::blank_memory;
+use memory_entry::load::get_memory;
+use memory_entry::put::put_memory;
 use node_addr::Found;
 use node_addr::NodeAddr;
 use node_addr::place::before_here;
@@ -23,7 +23,7 @@ ghost use Rattle.laws.specs.Shift.{erase};
 ghost use Rattle.laws.specs.Scan.{scan};
 ghost use Rattle.node_addr.specs.View.{Finds};
 ghost use Rattle.memories.specs.View.{viewMemory, FitMemory};
-ghost use Rattle.gates.specs.View.{viewGates, FitGates, gateCount};
+ghost use Rattle.memory_entry.specs.View.{viewGates, FitGates, gateCount};
 ghost use Rattle.gates.specs.Walk.{after, Takes};
 ghost use Rattle.gates.specs.Order.{RoomFor};
 

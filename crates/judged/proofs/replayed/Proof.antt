@@ -5,7 +5,7 @@ use native.Mathlib.Omega.{arith}
 use Rattle.params.specs.View.{viewParams}
 use Rattle.memories.specs.View.{viewReplay, viewReplays, viewMemory}
 use Rattle.memories.specs.Loops.{shown-length}
-use Rattle.judged.specs.Judge.{replayed-of}
+use Rattle.judged.specs.Tests.{replayed-of}
 use Rattle.judged.proofs.replayed.Statement.{statement}
 use Rattle.judged.proofs.replayed.Tie as tie
 

@@ -1,5 +1,5 @@
 use native.Mathlib.Omega.{arith}
-use Rattle.judged.specs.Judge.{silencing-quiet, silencing-lifted, silencing-over, silencing-any, silencing-epoch}
+use Rattle.judged.specs.Tests.{silencing-quiet, silencing-lifted, silencing-over, silencing-any, silencing-epoch}
 use Rattle.judged.proofs.silencing.Statement.{statement}
 use Rattle.judged.proofs.silencing.Tie as tie
 
