@@ -1,7 +1,7 @@
 // The legs of a region: counted, found by link, added at the end and removed.
-use crate::at::link_at;
-use crate::entry::put_leg;
-use crate::leg::Leg;
+use leg_entry::at::link_at;
+use leg_entry::entry::put_leg;
+use leg_entry::leg::Leg;
 use node_addr::Found;
 use node_addr::LinkNo;
 use regions::count;
@@ -15,7 +15,7 @@ ghost use Rattle.rules.specs.Legs.{onLink};
 ghost use Rattle.laws.specs.Shift.{erase};
 ghost use Rattle.laws.specs.Scan.{scan};
 ghost use Rattle.node_addr.specs.View.{Finds};
-ghost use Rattle.legs.specs.View.{FitLeg, FitLegs, viewLeg, viewLegs, legCount};
+ghost use Rattle.leg_entry.specs.View.{FitLeg, FitLegs, viewLeg, viewLegs, legCount};
 
 pub fn leg_count(s: &[u8]) -> usize
     requires { ⌜ FitLegs (now s) ⌝ }
