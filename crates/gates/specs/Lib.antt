@@ -1,6 +1,4 @@
-pub mod Rows
 pub mod View
-pub mod Entry
 pub mod Walk
 pub mod Order
 pub mod Put

@@ -16,8 +16,8 @@ use Rattle.laws.specs.Chunk.{chunks-whole}
 use Rattle.laws.specs.Store.{gapped, inserted-is}
 use Rattle.memories.specs.declared.Memory.{Memory}
 use Rattle.memories.specs.View.{viewMemory, FitMemory}
-use Rattle.gates.specs.View.{entryOf, viewGates, FitGates, gateCount}
-use Rattle.gates.specs.Entry.{memoryBytes, fit-memory, memory-shows}
+use Rattle.memory_entry.specs.View.{entryOf, viewGates, FitGates, gateCount}
+use Rattle.memory_entry.specs.Entry.{memoryBytes, fit-memory, memory-shows}
 use Rattle.gates.specs.Walk.{after, Takes, count-is}
 use Rattle.gates.specs.Order.{inserted-here}
 

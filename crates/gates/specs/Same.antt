@@ -16,8 +16,8 @@ use Rattle.laws.specs.Cell.{num, flagOf, num-same, flag-same, option-num-same}
 use Rattle.laws.specs.Chunk.{chunks}
 use Rattle.laws.specs.Fields.{cuts, sum}
 use Rattle.laws.specs.Store.{Store, entries, store-zeros, same-view}
-use Rattle.gates.specs.Rows.{AnyBytes}
-use Rattle.gates.specs.View.{replayOf, digestOf, silenceWs, silenceOf, FitSilenceCell, entryWs, entryOf, FitEntry, viewGates, FitGates, fit-zeros}
+use Rattle.memory_entry.specs.Rows.{AnyBytes}
+use Rattle.memory_entry.specs.View.{replayOf, digestOf, silenceWs, silenceOf, FitSilenceCell, entryWs, entryOf, FitEntry, viewGates, FitGates, fit-zeros}
 
 -- ---- new memory
 pub fit-new : FitGates (replicate 20289 0)

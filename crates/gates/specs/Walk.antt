@@ -15,8 +15,8 @@ use Rattle.laws.specs.Chunk.{chunks}
 use Rattle.laws.specs.Store.{entries-count}
 use Rattle.node_addr.specs.declared.Found.the-variants as foundv
 use Rattle.node_addr.specs.View.{Finds, finds-some, finds-no}
-use Rattle.gates.specs.Entry.{peer-here}
-use Rattle.gates.specs.View.{entryOf, viewGates, FitGates, gateCount, noMemory, memoryAt}
+use Rattle.memory_entry.specs.Entry.{peer-here}
+use Rattle.memory_entry.specs.View.{entryOf, viewGates, FitGates, gateCount, noMemory, memoryAt}
 
 pub count-is : {s : Bytes} → FitGates s → length (viewGates s) ≡ gateCount s
 count-is f = entries-count entryOf f

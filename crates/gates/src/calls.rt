@@ -1,22 +1,22 @@
 // What happens to a peer, in what is remembered of it; and the judgement of a msg1.
-use crate::cell::get_flag;
-use crate::load::get_memory;
 use crate::map::find_memory;
 use crate::map::memory_of;
 use crate::map::replace_memory;
 use crate::map::store_memory;
+use judged::gate;
 use memories::Liveness;
 use memories::Source;
 use memories::Verdict;
-use memories::judged::gate;
-use memories::lent::with_clear;
-use memories::remembered::ended_by;
-use memories::remembered::promoted_by;
-use memories::remembered::stamped_at;
+use memory_entry::cell::get_flag;
+use memory_entry::load::get_memory;
 use node_addr::Digest;
 use node_addr::Found;
 use node_addr::NodeAddr;
 use params::Params;
+use remembered::ended_by;
+use remembered::lent::with_clear;
+use remembered::promoted_by;
+use remembered::stamped_at;
 ghost use mathlib.Core.Path.{_≡_};
 ghost use mathlib.Core.Option.{some};
 ghost use Prim.Native.Nat.{_<_};
@@ -27,7 +27,7 @@ ghost use Rattle.rules.specs.Gates as rule;
 ghost use Rattle.laws.specs.Shift.{erase};
 ghost use Rattle.params.specs.View.{viewParams};
 ghost use Rattle.memories.specs.View.{optional, FitParams, Within, refusedBy, asking};
-ghost use Rattle.gates.specs.View.{viewGates, FitGates, gateCount, memoryAt};
+ghost use Rattle.memory_entry.specs.View.{viewGates, FitGates, gateCount, memoryAt};
 ghost use Rattle.gates.specs.Order.{Room, still};
 
 // A msg1 with a digest promoted the peer unheard.

@@ -1,6 +1,3 @@
 // What is remembered of the peers, in lent memory: 32 entries of 634 bytes in the order of their peers, and then their count.
 pub mod calls;
-pub mod cell;
-pub mod load;
 pub mod map;
-pub mod put;

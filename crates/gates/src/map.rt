@@ -1,16 +1,16 @@
 // The memories of a region: counted, found by peer, stored.
-use crate::load::get_memory;
-use crate::put::put_memory;
 use memories::Memory;
 use memories::blank_memory;
-use memories::remembered::remembers;
-use memory::region::count;
-use memory::region::open_chunk;
-use memory::region::remove_chunk;
+use memory_entry::load::get_memory;
+use memory_entry::put::put_memory;
 use node_addr::Found;
 use node_addr::NodeAddr;
 use node_addr::place::before_here;
 use node_addr::place::node_here;
+use regions::count;
+use regions::open_chunk;
+use regions::remove_chunk;
+use remembered::remembers;
 ghost use mathlib.Core.Path.{_≡_};
 ghost use mathlib.Core.Bool.{true};
 ghost use Prim.Native.Nat.{_<_};
@@ -23,7 +23,7 @@ ghost use Rattle.laws.specs.Shift.{erase};
 ghost use Rattle.laws.specs.Scan.{scan};
 ghost use Rattle.node_addr.specs.View.{Finds};
 ghost use Rattle.memories.specs.View.{viewMemory, FitMemory};
-ghost use Rattle.gates.specs.View.{viewGates, FitGates, gateCount};
+ghost use Rattle.memory_entry.specs.View.{viewGates, FitGates, gateCount};
 ghost use Rattle.gates.specs.Walk.{after, Takes};
 ghost use Rattle.gates.specs.Order.{RoomFor};
 

@@ -1,13 +1,13 @@
 // The held peers of a region: counted, found, inserted in the order of their addresses, and removed.
 use crate::entry::put_held;
 use crate::record::Held;
-use memory::region::count;
-use memory::region::open_chunk;
-use memory::region::remove_chunk;
 use node_addr::Found;
 use node_addr::NodeAddr;
 use node_addr::place::before_here;
 use node_addr::place::node_here;
+use regions::count;
+use regions::open_chunk;
+use regions::remove_chunk;
 ghost use mathlib.Core.Path.{_≡_};
 ghost use Prim.Native.Nat.{_<_};
 ghost use lib.ListN.{length};

@@ -22,8 +22,9 @@ use Rattle.laws.specs.Cell.{byteOf, flagOf, Code, flag-shows}
 use Rattle.laws.specs.Chunk.{chunks, chunk-size, chunks-splice}
 use Rattle.laws.specs.Fields.{cuts, cuts-set, sum}
 use Rattle.node_addr.specs.Alike.{byte-here}
-use Rattle.legs.specs.View.{legWs, cell, legFrom, legOf, FitCells, FitLegCell, viewLegs, FitLegs, legCount, noLeg, legAt}
-use Rattle.legs.specs.Entry.{optional-number, cells-here}
+use Rattle.leg_entry.specs.View.{legWs, cell, legFrom, legOf, FitCells, FitLegCell, viewLegs, FitLegs, legCount, noLeg, legAt}
+use Rattle.leg_entry.specs.Entry.{optional-number, cells-here}
+use Rattle.leg_entry.specs.Start.{again}
 
 -- the bytes of the i-th leg
 abbrev pub entryAt : Bytes → ℕ → Bytes
@@ -68,10 +69,6 @@ unsent-kind : (x : Bool) (m d : Bytes) (p : ℕ) (r q : Bool)
     ≡ unsentKind (if x then Kind.Answer (record { msg2 = m; ephemeral = d; epoch = p; replaces = r; sent = q }) else Kind.Dial)
 unsent-kind true m d p r q = refl
 unsent-kind false m d p r q = refl
-
--- a leg with its next resend and the number of those sent
-abbrev pub again : Option ℕ → ℕ → Leg → Leg
-again o n g = record { link = g .link; peer = g .peer; kind = g .kind; msg1 = g .msg1; sent = n; next = o; deadline = g .deadline; lease = g .lease }
 
 module _ (c : Bytes) (z : length c ≡ 351) (f : FitLegCell c) where
   sent-cuts : (b : ℕ) → cuts 0 0 legWs (splice c 51 (b ∷ [])) ≡ set (cuts 0 0 legWs c) 9 (b ∷ [])

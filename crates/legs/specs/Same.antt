@@ -15,7 +15,7 @@ use Rattle.laws.specs.Cell.{num, flagOf, num-same, flag-same, text-same, option
 use Rattle.laws.specs.Chunk.{chunks}
 use Rattle.laws.specs.Fields.{cuts, sum}
 use Rattle.laws.specs.Store.{Store, store-zeros, same-view}
-use Rattle.legs.specs.View.{legWs, answerFrom, kindFrom, legOf, FitLegCell, viewLegs, FitLegs, fit-zeros}
+use Rattle.leg_entry.specs.View.{legWs, answerFrom, kindFrom, legOf, FitLegCell, viewLegs, FitLegs, fit-zeros}
 
 -- ---- new memory
 pub fit-new : FitLegs (replicate 11233 0)

@@ -18,7 +18,7 @@ use Rattle.laws.specs.Scan.{scan, Ahead, scan-hit, scan-skip, scan-end, length-
 use Rattle.laws.specs.Chunk.{chunks}
 use Rattle.node_addr.specs.declared.Found.the-variants as foundv
 use Rattle.node_addr.specs.View.{Finds, finds-some, finds-no}
-use Rattle.legs.specs.View.{legOf, viewLegs, FitLegs, legCount, noLeg, legAt}
+use Rattle.leg_entry.specs.View.{legOf, viewLegs, FitLegs, legCount, noLeg, legAt}
 
 pub count-is : {s : Bytes} → FitLegs s → length (viewLegs s) ≡ legCount s
 count-is {s} f = length-shows legOf (legCount s) (chunks 351 32 s) (omega arith)

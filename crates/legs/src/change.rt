@@ -1,6 +1,6 @@
 // Changes of the i-th leg, in place.
-use crate::cell::put_flag;
-use crate::leg::Again;
+use leg_entry::cell::put_flag;
+use leg_entry::leg::Again;
 use memory::read::get_be;
 use memory::read::get_byte;
 use memory::write::put_be;
@@ -17,8 +17,8 @@ ghost use Rattle.rules.specs.Field.{digits};
 ghost use Rattle.rules.specs.Legs.{resent, markSent, markUnsent};
 ghost use Rattle.laws.specs.Splice.{Wrote};
 ghost use Rattle.params.specs.View.{viewParams};
-ghost use Rattle.legs.specs.Start.{Next};
-ghost use Rattle.legs.specs.View.{FitLegs, viewLegs, legCount, legAt};
+ghost use Rattle.leg_entry.specs.Start.{Next};
+ghost use Rattle.leg_entry.specs.View.{FitLegs, viewLegs, legCount, legAt};
 
 // One more, while it fits.
 fn one_more(sent: u32) -> u32

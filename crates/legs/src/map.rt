@@ -1,11 +1,11 @@
 // The legs of a region: counted, found by link, added at the end and removed.
-use crate::at::link_at;
-use crate::entry::put_leg;
-use crate::leg::Leg;
-use memory::region::count;
-use memory::region::remove_chunk;
+use leg_entry::at::link_at;
+use leg_entry::entry::put_leg;
+use leg_entry::leg::Leg;
 use node_addr::Found;
 use node_addr::LinkNo;
+use regions::count;
+use regions::remove_chunk;
 ghost use mathlib.Core.Path.{_≡_};
 ghost use mathlib.Core.List.{[], _∷_, _++_};
 ghost use Prim.Native.Nat.{_<_};
@@ -15,7 +15,7 @@ ghost use Rattle.rules.specs.Legs.{onLink};
 ghost use Rattle.laws.specs.Shift.{erase};
 ghost use Rattle.laws.specs.Scan.{scan};
 ghost use Rattle.node_addr.specs.View.{Finds};
-ghost use Rattle.legs.specs.View.{FitLeg, FitLegs, viewLeg, viewLegs, legCount};
+ghost use Rattle.leg_entry.specs.View.{FitLeg, FitLegs, viewLeg, viewLegs, legCount};
 
 pub fn leg_count(s: &[u8]) -> usize
     requires { ⌜ FitLegs (now s) ⌝ }

@@ -1,6 +1,6 @@
 // The search for a stored msg2: over the links in ascending order and the addresses of each, left at the first leg that yields one.
-use crate::at::stored_at;
 use crate::map::find_leg;
+use leg_entry::at::stored_at;
 use links::read::link_count;
 use links::read::no_at;
 use links::read::released_at;
@@ -23,7 +23,7 @@ ghost use Rattle.rules.specs.Settle.{storedIn};
 ghost use Rattle.laws.specs.Chunk.{chunks};
 ghost use Rattle.node_addr.specs.View.{FitMessage, viewMessage, FitPair, viewPair};
 ghost use Rattle.links.specs.View.{pathOf, FitPaths, pathCount, FitLinks, viewLinks, linkCount};
-ghost use Rattle.legs.specs.View.{FitLegs, viewLegs};
+ghost use Rattle.leg_entry.specs.View.{FitLegs, viewLegs};
 ghost use Rattle.legs.specs.Stored.{Tells, yieldOf, reach};
 ghost use Rattle.legs.specs.Addresses.{linkAt};
 

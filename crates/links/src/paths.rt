@@ -2,7 +2,6 @@
 use crate::record::Path;
 use crate::record::Proven;
 use memory::read::get_byte;
-use memory::region::remove_chunk;
 use memory::write::put_byte;
 use node_addr::Found;
 use node_addr::Pair;
@@ -10,6 +9,7 @@ use node_addr::blank_pair;
 use node_addr::place::load_pair;
 use node_addr::place::pair_here;
 use node_addr::place::put_pair;
+use regions::remove_chunk;
 ghost use mathlib.Core.Path.{_≡_};
 ghost use mathlib.Core.Bool.{false, not};
 ghost use mathlib.Core.List.{[], _∷_, _++_, map};

@@ -1,4 +1,3 @@
 pub mod View
 pub mod Loops
 pub mod Judge
-pub mod Silences

@@ -1,11 +1,4 @@
-// What is remembered of one peer, by value: the stamp of a restart, the digests that promoted it unheard, its silences; and the judgement of a msg1.
-pub mod counted;
-pub mod judged;
-pub mod lent;
-pub mod remembered;
-pub mod seen;
-pub mod silences;
-
+// What is remembered of one peer, by value: the stamp of a restart, the digests that promoted it unheard, its silences; and the cases of a judgement.
 use node_addr::Digest;
 use node_addr::NodeAddr;
 ghost use mathlib.Core.Path.{_≡_};

@@ -1,5 +1,4 @@
-// Bytes in lent memory: numbers and runs read, written, compared, moved and cleared where they stand, and the entries of a map in a region.
+// Bytes in lent memory: numbers and runs read, written, compared and cleared where they stand.
 pub mod compare;
 pub mod read;
-pub mod region;
 pub mod write;

@@ -1,10 +1,9 @@
-// Numbers and runs of bytes written at a place of a lent slice; bytes moved and cleared. A writer answers the place after what it wrote.
-ghost use mathlib.Core.Path.{_≡_};
-ghost use mathlib.Core.List.{List, [], _∷_};
-ghost use Prim.Native.Nat.{ℕ, _+_, _≤_, _<_};
+// Numbers and runs of bytes written at a place of a lent slice; bytes cleared. A writer answers the place after what it wrote.
+ghost use mathlib.Core.List.{[], _∷_};
+ghost use Prim.Native.Nat.{_+_, _≤_, _<_};
 ghost use lib.ListN.{length, take, drop, replicate};
 ghost use Rattle.rules.specs.Field.{digits};
-ghost use Rattle.laws.specs.Splice.{splice, Wrote};
+ghost use Rattle.laws.specs.Splice.{Wrote};
 
 // One byte.
 pub fn put_byte(s: &mut [u8], at: usize, v: u8) -> usize
@@ -76,32 +75,6 @@ pub fn put_128(s: &mut [u8], at: usize, b: [u8; 128], n: usize) -> usize
     ensures { λ r. ⌜ Wrote (now (s .entry)) at n (take n b) (now (s .exit)) r ⌝ }
 {
     put_run(s, at, &b, 0, n)
-}
-
-// n bytes from `from` down to `to`.
-pub fn move_down(s: &mut [u8], from: usize, to: usize, n: usize)
-    requires { ⌜ to ≤ from ⌝ }
-    requires { ⌜ from + n ≤ length (now s) ⌝ }
-    ensures { λ r. ⌜ now (s .exit) ≡ splice (now (s .entry)) to (take n (drop from (now (s .entry)))) ⌝ }
-{
-    let mut i = 0;
-    while i < n {
-        s[to + i] = s[from + i];
-        i += 1;
-    }
-}
-
-// n bytes from `from` up to `to`.
-pub fn move_up(s: &mut [u8], from: usize, to: usize, n: usize)
-    requires { ⌜ from ≤ to ⌝ }
-    requires { ⌜ to + n ≤ length (now s) ⌝ }
-    ensures { λ r. ⌜ now (s .exit) ≡ splice (now (s .entry)) to (take n (drop from (now (s .entry)))) ⌝ }
-{
-    let mut i = n;
-    while 0 < i {
-        i -= 1;
-        s[to + i] = s[from + i];
-    }
 }
 
 // n zeros.

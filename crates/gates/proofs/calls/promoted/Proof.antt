@@ -4,7 +4,7 @@ use Rattle.rules.specs.Data.{Memory}
 use Rattle.rules.specs.Gates.{memory, store, promoted}
 use Rattle.params.specs.View.{viewParams}
 use Rattle.memories.specs.View.{viewMemory}
-use Rattle.gates.specs.View.{viewGates}
+use Rattle.memory_entry.specs.View.{viewGates}
 use Rattle.gates.specs.Order.{room-for, promoted-peer, memory-peer}
 use Rattle.gates.proofs.calls.promoted.Statement.{statement}
 use Rattle.gates.proofs.calls.promoted.Tie as tie

@@ -3,7 +3,7 @@ use borrow.Author.Needs.{needs}
 use Rattle.rules.specs.Data.{Memory}
 use Rattle.rules.specs.Gates.{memory, store, stamped}
 use Rattle.memories.specs.View.{viewMemory}
-use Rattle.gates.specs.View.{viewGates}
+use Rattle.memory_entry.specs.View.{viewGates}
 use Rattle.gates.specs.Order.{room-for, memory-peer}
 use Rattle.gates.proofs.calls.stamp.Statement.{statement}
 use Rattle.gates.proofs.calls.stamp.Tie as tie

@@ -4,7 +4,7 @@ use Rattle.rules.specs.Gates.{memoryOf}
 use Rattle.laws.specs.Store.{entry-within}
 use Rattle.node_addr.specs.View.{finds-at, finds-none}
 use Rattle.memories.specs.View.{viewMemory}
-use Rattle.gates.specs.View.{entryOf, viewGates}
+use Rattle.memory_entry.specs.View.{entryOf, viewGates}
 use Rattle.gates.specs.Order.{stored-at, stored-new}
 use Rattle.gates.proofs.map.store_memory.Statement.{statement}
 use Rattle.gates.proofs.map.store_memory.Tie as tie

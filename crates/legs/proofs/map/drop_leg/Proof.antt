@@ -1,5 +1,5 @@
 -- `legs::map::drop_leg` meets its contract.
-use Rattle.legs.specs.View.{legOf}
+use Rattle.leg_entry.specs.View.{legOf}
 use Rattle.node_addr.specs.View.{finds-at, finds-none}
 use Rattle.rules.specs.Legs.{onLink}
 use Rattle.laws.specs.Place.{without-at, without-nowhere}

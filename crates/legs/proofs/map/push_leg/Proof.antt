@@ -1,6 +1,6 @@
 -- `legs::map::push_leg` meets its contract.
-use Rattle.legs.specs.Entry.{fit-bytes, leg-bytes}
-use Rattle.legs.specs.View.{legOf}
+use Rattle.leg_entry.specs.Entry.{fit-bytes, leg-bytes}
+use Rattle.leg_entry.specs.View.{legOf}
 use Rattle.laws.specs.Store.{pushed-is}
 use borrow.Author.Needs.{needs}
 use Rattle.legs.proofs.map.push_leg.Statement.{statement}

@@ -1,5 +1,5 @@
 -- `legs::map::remove_leg` meets its contract.
-use Rattle.legs.specs.View.{legOf, fit-zeros}
+use Rattle.leg_entry.specs.View.{legOf, fit-zeros}
 use Rattle.laws.specs.Store.{removed-is}
 use borrow.Author.Needs.{needs}
 use Rattle.legs.proofs.map.remove_leg.Statement.{statement}

@@ -1,7 +1,7 @@
 -- `legs::poll::find_overdue` meets its contract.
-use Rattle.legs.specs.View.{legAt, viewLegs}
+use Rattle.leg_entry.specs.View.{legAt, viewLegs}
 use Rattle.legs.specs.Walk.{Scanning, scanning-start, scanning-hit, scanning-skip, scanning-end}
-use Rattle.legs.specs.At.{pastDeadline, past-yes, past-no}
+use Rattle.leg_entry.specs.At.{pastDeadline, past-yes, past-no}
 use Rattle.laws.specs.Scan.{scan}
 use Prim.Native.Nat.{_-_}
 use borrow.Author.Needs.{needs}

@@ -1,9 +1,9 @@
 -- `legs::stored::stored` meets its contract.
-use Rattle.legs.specs.At.{clash}
+use Rattle.leg_entry.specs.At.{clash}
 use mathlib.Core.Path.{_∙_, _≡_, refl}
 use Rattle.legs.specs.Addresses.{linkAt, links-count}
 use Rattle.legs.specs.Stored.{yieldOf, reach, Reaching, reaching-start, reaching-hit, reaching-skip, reaching-end, Looking, looking-start, looking-hit, looking-skip, looking-end, tells-no, tells-none, tells-on}
-use Rattle.legs.specs.View.{viewLegs}
+use Rattle.leg_entry.specs.View.{viewLegs}
 use Rattle.links.specs.View.{viewLinks, noLink}
 use Rattle.node_addr.specs.View.{viewPair, viewMessage}
 use Rattle.rules.specs.Settle.{storedOn, storedIn}

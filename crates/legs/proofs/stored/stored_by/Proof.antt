@@ -1,9 +1,9 @@
 -- `legs::stored::stored_by` meets its contract.
 use Rattle.legs.specs.Addresses.{linkAt}
 use Rattle.legs.specs.Stored.{yieldOf, by-none, by-some}
-use Rattle.legs.specs.View.{viewLegs}
+use Rattle.leg_entry.specs.View.{viewLegs}
 use Rattle.node_addr.specs.View.{viewMessage}
-use Rattle.legs.specs.At.{off, on}
+use Rattle.leg_entry.specs.At.{off, on}
 use borrow.Author.Needs.{needs}
 use Rattle.legs.proofs.stored.stored_by.Statement.{statement}
 use Rattle.legs.proofs.stored.stored_by.Tie as tie

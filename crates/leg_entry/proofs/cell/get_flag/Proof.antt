@@ -1,0 +1,11 @@
+-- `leg_entry::cell::get_flag` meets its contract.
+use Rattle.leg_entry.specs.Entry.{flag-here}
+use borrow.Author.Needs.{needs}
+use Rattle.leg_entry.proofs.cell.get_flag.Statement.{statement}
+use Rattle.leg_entry.proofs.cell.get_flag.Tie as tie
+
+returns : tie.Need-returns
+returns c = flag-here (c .before .args .s .now) (c .before .args .at)
+
+pub get-flag-spec : {M : Type 1} → statement M
+get-flag-spec = tie.close (tie.spec (λ c. search needs) returns)

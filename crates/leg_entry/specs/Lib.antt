@@ -1,0 +1,4 @@
+pub mod View
+pub mod Entry
+pub mod At
+pub mod Start

@@ -1,0 +1,5 @@
+// A handshake leg: by value, and in its entry of 351 bytes in lent memory, read and written.
+pub mod at;
+pub mod cell;
+pub mod entry;
+pub mod leg;
