@@ -1,13 +1,13 @@
 // A new link and leg for a msg1 that is admitted.
-use crate::put::put_msg2;
 use calls::Call;
+use crate::put::put_msg2;
 use legs::leg::answer_leg;
 use links::record::Dir;
 use node_addr::LinkNo;
 use state::head::next_no;
 use state::head::params_of;
-use state::join::join;
-use state::leg::leg_count;
+use state_legs::join::join;
+use state_legs::leg_count;
 ghost use Prim.Native.Nat.{_+_, _<_, _^_};
 ghost use lib.ListN.{length};
 ghost use Rattle.rules.specs.Settle as rule;

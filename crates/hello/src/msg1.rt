@@ -1,16 +1,16 @@
 // The calls of a msg1: one that came before is answered as then, one of the same session is a rekey, any other asks to be admitted.
-use crate::admit::admit;
 use admission::put::put_msg2;
 use calls::Call;
+use crate::admit::admit;
 use memories::Source;
 use node_addr::Found;
 use output::put::put_free;
 use output::put::put_rekey;
 use places::exhausted;
-use state::ask::attributed;
-use state::ask::stored;
-use state::peer::find_held;
-use state::peer::held_epoch;
+use state_asks::attributed;
+use state_asks::stored;
+use state_held::find_held;
+use state_held::held_epoch;
 use steps::Answer;
 ghost use mathlib.Core.Path.{_≡_};
 ghost use mathlib.Core.Bool.{true};
