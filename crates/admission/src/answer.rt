@@ -1,6 +1,6 @@
 // A new link and leg for a msg1 that is admitted.
-use calls::Call;
 use crate::put::put_msg2;
+use calls::Call;
 use legs::leg::answer_leg;
 use links::record::Dir;
 use node_addr::LinkNo;

@@ -1,7 +1,7 @@
 // A held peer whose msg1 is admitted: its holder goes, and the msg1 is answered.
+use crate::answer::answer;
 use calls::Call;
 use codes::Why;
-use crate::answer::answer;
 use ending::peer::remove_at;
 use memories::Source;
 use node_addr::NodeAddr;

@@ -1,7 +1,7 @@
 // The calls of a msg1: one that came before is answered as then, one of the same session is a rekey, any other asks to be admitted.
+use crate::admit::admit;
 use admission::put::put_msg2;
 use calls::Call;
-use crate::admit::admit;
 use memories::Source;
 use node_addr::Found;
 use output::put::put_free;

@@ -1,8 +1,8 @@
 // What a msg2 makes of its dial.
+use crate::install::install;
 use codes::Build;
 use codes::Transition;
 use codes::Why;
-use crate::install::install;
 use ending::leg::end_leg;
 use ending::peer::remove_at;
 use held::record::Held;

@@ -1,7 +1,7 @@
 // What becomes of a leg when what it sends went out, or did not.
+use crate::install::install;
 use codes::Build;
 use codes::Transition;
-use crate::install::install;
 use held::record::Held;
 use node_addr::Found;
 use node_addr::LinkNo;

@@ -1,6 +1,6 @@
 // Close: every leg and every held peer ends.
-use codes::Why;
 use crate::clear::clear_legs;
+use codes::Why;
 use ending::peer::remove_at;
 use lists::put_close_header;
 use lists::put_pairs;
