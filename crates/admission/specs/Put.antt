@@ -16,7 +16,7 @@ use Rattle.node_addr.specs.declared.Found.the-variants as foundv
 use Rattle.legs.specs.At.{answerOf, Stands}
 use Rattle.output.specs.Write.{Puts, puts-one}
 use Rattle.state.specs.View.{nthLeg}
-use Rattle.state.specs.Ask.{Yields, storedAt}
+use Rattle.state_asks.specs.Ask.{Yields, storedAt}
 use Rattle.steps.specs.Did.{Space, space-head, space-tail, puts-cons}
 
 -- ---- the msg2 m, which stands in t

@@ -1,12 +1,12 @@
 // A held peer whose msg1 is admitted: its holder goes, and the msg1 is answered.
 use crate::answer::answer;
-use ending::peer::remove_at;
 use calls::Call;
+use codes::Why;
+use ending::peer::remove_at;
 use memories::Source;
 use node_addr::NodeAddr;
-use codes::Why;
-use state::gate::stamp;
-use state::peer::held_heard;
+use state_gates::stamp;
+use state_held::held_heard;
 ghost use mathlib.Core.Path.{_≡_};
 ghost use mathlib.Core.Bool.{true};
 ghost use mathlib.Core.Option.{some};

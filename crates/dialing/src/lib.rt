@@ -10,7 +10,7 @@ use places::entering;
 use places::exhausted;
 use state::head::next_no;
 use state::head::params_of;
-use state::join::join;
+use state_legs::join::join;
 use steps::Answer;
 ghost use Prim.Native.Nat.{_+_, _^_, _<_};
 ghost use lib.ListN.{length};

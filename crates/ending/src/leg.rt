@@ -1,13 +1,13 @@
 // The end of a handshake leg.
+use lists::put_retire;
 use node_addr::Found;
 use node_addr::LinkNo;
-use lists::put_retire;
 use output::put::put_free;
-use state::leg::drop_leg;
-use state::leg::find_leg;
-use state::leg::leg_lease;
-use state::leg::leg_link;
-use state::link::retire_link;
+use state_legs::drop_leg;
+use state_legs::find_leg;
+use state_legs::leg_lease;
+use state_legs::leg_link;
+use state_links::retire_link;
 ghost use Prim.Native.Nat.{_<_};
 ghost use lib.ListN.{length};
 ghost use Rattle.rules.specs.Settle as rule;

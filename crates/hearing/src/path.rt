@@ -1,10 +1,10 @@
 // The paths of a link.
 use links::record::Proven;
+use lists::put_release;
 use node_addr::LinkNo;
 use node_addr::Pair;
-use lists::put_release;
-use state::link::crowded;
-use state::link::set_path;
+use state_links::crowded;
+use state_links::set_path;
 ghost use Rattle.rules.specs.Settle as rule;
 ghost use Rattle.node_addr.specs.View.{FitPair, viewPair};
 ghost use Rattle.links.specs.View.{viewProven};
@@ -32,6 +32,6 @@ pub fn release(t: &mut [u8], out: &mut [u8], at: usize, n: LinkNo, p: Pair, keep
     requires { ⌜ Space (now out) at ((rule.release (n .0) (viewPair p) keep (viewTable (now t))) .outs) ⌝ }
     ensures { λ r. ⌜ Did (now (out .entry)) at (now (t .exit)) (now (out .exit)) r (rule.release (n .0) (viewPair p) keep (viewTable (now (t .entry)))) ⌝ }
 {
-    let closes = state::link::release(t, n, p, keep);
+    let closes = state_links::release(t, n, p, keep);
     put_release(out, at, n, closes, p)
 }

@@ -1,13 +1,13 @@
 // A held peer that restarted, or that was heard.
+use codes::Transition;
 use node_addr::Found;
 use node_addr::NodeAddr;
 use node_addr::Pair;
-use codes::Transition;
 use output::put::put_reset;
-use state::peer::current_is;
-use state::peer::find_held;
-use state::peer::hear_peer;
-use state::peer::restart_peer;
+use state_held::current_is;
+use state_held::find_held;
+use state_held::hear_peer;
+use state_held::restart_peer;
 ghost use Rattle.rules.specs.Std.{Ascending};
 ghost use Rattle.rules.specs.Gates.{earlierMemory};
 ghost use Rattle.rules.specs.Settle as rule;
@@ -48,7 +48,7 @@ pub fn heard(
     };
     let stays = current_is(t, i, from);
     hear_peer(t, peer, clock, from);
-    state::gate::heard(t, peer);
+    state_gates::heard(t, peer);
     if stays {
         return at;
     }

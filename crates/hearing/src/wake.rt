@@ -1,6 +1,6 @@
 // When the table wants its next poll.
 use output::put::put_wake;
-use state::leg::next_wake;
+use state_legs::next_wake;
 ghost use mathlib.Core.List.{[], _∷_};
 ghost use Rattle.rules.specs.Data.{Output};
 ghost use Rattle.rules.specs.Legs.{nextWake};

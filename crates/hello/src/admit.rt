@@ -8,7 +8,7 @@ use calls::Call;
 use memories::Source;
 use node_addr::Found;
 use places::entering;
-use state::peer::find_held;
+use state_held::find_held;
 use steps::Answer;
 ghost use mathlib.Core.Path.{_≡_};
 ghost use mathlib.Core.Bool.{false};

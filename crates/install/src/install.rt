@@ -1,8 +1,8 @@
 // A leg becomes a holder.
 use held::record::Held;
-use state::leg::drop_leg;
-use state::link::hold_link;
-use state::peer::insert_held;
+use state_held::insert_held;
+use state_legs::drop_leg;
+use state_links::hold_link;
 ghost use Prim.Native.Nat.{_<_};
 ghost use lib.ListN.{length};
 ghost use Rattle.held.specs.View.{FitRec, viewRec};

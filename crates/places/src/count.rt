@@ -1,11 +1,11 @@
 // How many places are used: one for each memory, and one for each peer that only legs and held peers name.
 use crate::named::named_from;
-use state::gate::memory_count;
-use state::leg::leg_count;
-use state::leg::leg_named;
-use state::leg::leg_peer;
-use state::peer::held_count;
-use state::peer::held_peer;
+use state_gates::memory_count;
+use state_held::held_count;
+use state_held::held_peer;
+use state_legs::leg_count;
+use state_legs::leg_named;
+use state_legs::leg_peer;
 ghost use mathlib.Core.Path.{_≡_};
 ghost use Prim.Native.Nat.{_+_, _<_};
 ghost use lib.ListN.{length};

@@ -1,16 +1,16 @@
 // Close: every leg and every held peer ends.
 use crate::clear::clear_legs;
-use ending::peer::remove_at;
 use codes::Why;
+use ending::peer::remove_at;
 use lists::put_close_header;
 use lists::put_pairs;
 use output::put::put_free;
-use state::leg::leg_count;
-use state::leg::leg_lease;
-use state::leg::leg_link;
-use state::link::retire_link;
-use state::peer::held_count;
-use state::peer::held_peer;
+use state_held::held_count;
+use state_held::held_peer;
+use state_legs::leg_count;
+use state_legs::leg_lease;
+use state_legs::leg_link;
+use state_links::retire_link;
 ghost use mathlib.Core.List.{map};
 ghost use Prim.Native.Nat.{_+_, _≤_};
 ghost use Rattle.rules.specs.Data.{Free};

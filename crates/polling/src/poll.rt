@@ -2,10 +2,10 @@
 use ending::leg::end_leg;
 use node_addr::Found;
 use output::put::put_resend;
-use state::leg::find_overdue;
-use state::leg::find_resend;
-use state::leg::leg_link;
-use state::leg::leg_msg1;
+use state_legs::find_overdue;
+use state_legs::find_resend;
+use state_legs::leg_link;
+use state_legs::leg_msg1;
 ghost use Rattle.rules.specs.Legs as rule;
 ghost use Rattle.rules.specs.Settle as settle;
 ghost use Rattle.output.specs.Write.{Puts};

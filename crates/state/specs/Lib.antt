@@ -1,4 +1,3 @@
 pub mod View
 pub mod Told
 pub mod Same
-pub mod Ask

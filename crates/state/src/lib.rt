@@ -1,8 +1,2 @@
-// The whole table in 45,478 lent bytes, and each function of a map lifted to it. No place within the table is named above this crate.
-pub mod ask;
-pub mod gate;
+// The whole table in 45,478 lent bytes: what it shows, and its head. The crates `state_..` lift each function of a map to it; no place within the table is named above them.
 pub mod head;
-pub mod join;
-pub mod leg;
-pub mod link;
-pub mod peer;

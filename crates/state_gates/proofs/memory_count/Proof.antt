@@ -1,0 +1,17 @@
+-- `state_gates::memory_count` meets its contract.
+use lib.Dec.{lit≤}
+use Rattle.state.specs.View.{viewTable}
+use Rattle.state.specs.Told.{part-end}
+use borrow.Author.Needs.{needs}
+use Rattle.state_gates.proofs.memory_count.Statement.{statement}
+use Rattle.state_gates.proofs.memory_count.Tie as tie
+
+part-memory-count-end : tie.Need-part-memory-count-end
+part-memory-count-end c = part-end (c .before .pre) (lit≤ tt)
+
+returns : tie.Need-returns
+unfolding viewTable
+returns c = c .memory-count .ensures .1
+
+pub memory-count-spec : {M : Type 1} → statement M
+memory-count-spec = tie.close (tie.spec (λ c. search needs) (λ c. search needs) part-memory-count-end (λ c κs. search needs) returns)

@@ -1,0 +1,20 @@
+-- `state_legs::find_resend` meets its contract.
+use lib.Dec.{lit≤}
+use Rattle.state.specs.View.{viewTable}
+use Rattle.state.specs.Told.{part-end, leg-to}
+use borrow.Author.Needs.{needs}
+use Rattle.state_legs.proofs.find_resend.Statement.{statement}
+use Rattle.state_legs.proofs.find_resend.Tie as tie
+
+part-find-resend-end : tie.Need-part-find-resend-end
+part-find-resend-end c = part-end (c .before .pre .0) (lit≤ tt)
+
+find-resend-requires : tie.Need-find-resend-requires
+find-resend-requires c κs = (c .before .before .pre .0 .legs, leg-to (c .before .before .pre .0) (c .before .before .pre .1))
+
+returns : tie.Need-returns
+unfolding viewTable
+returns c = c .find-resend .ensures
+
+pub find-resend-spec : {M : Type 1} → statement M
+find-resend-spec = tie.close (tie.spec (λ c. search needs) (λ c. search needs) part-find-resend-end find-resend-requires returns)
