@@ -107,7 +107,8 @@ fn intro(machine: &str) -> String {
          - The library: `settle_call` with a record's bytes, a table and a buffer: the record is read, the outputs are written. The buffer was \
          not cleared between calls.\n\
          - The Rust: the reference `Table` alone, with `-C opt-level=3`, no `target-cpu` and the standard allocator. Its calls are read before \
-         the clock starts and moved in; the outputs are a `Vec`, dropped before the next call. Nothing checks limits or makes bytes.\n\n\
+         the clock starts and moved in (about 65 instructions); the outputs are a `Vec`, dropped before the next call. Nothing checks limits \
+         or makes bytes.\n\n\
          So the library's figures have the reading of records and the writing of outputs in them, and the Rust's have not. Figures are \
          nanoseconds; \"times\" is the Rust's by the library's: above 1 the library is faster.\n"
     )
