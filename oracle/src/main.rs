@@ -33,6 +33,8 @@ mod proto {
     }
 }
 
+#[cfg(settle_library)]
+mod bench;
 mod cover;
 mod damage;
 mod dump;
@@ -84,6 +86,8 @@ fn run(words: &[&str]) -> Option<Vec<u8>> {
         ["run"] => Some(tape::run(&input())),
         ["table"] => Some(dump::after(&input())),
         ["layout"] => Some(layout::after(&input())),
+        #[cfg(settle_library)]
+        ["bench", rest @ ..] => bench::run(rest),
         ["replay-set"] => stored::set(),
         ["replay"] => stored::run(&input()),
         ["replay-cover"] => stored::reached(&input()),

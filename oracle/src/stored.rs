@@ -31,7 +31,7 @@ fn add(out: &mut Vec<u8>, tape: &[u8]) {
 }
 
 /// The tapes of a set.
-fn tapes(mut set: &[u8]) -> Option<Vec<&[u8]>> {
+pub fn tapes(mut set: &[u8]) -> Option<Vec<&[u8]>> {
     let mut all = Vec::new();
     while !set.is_empty() {
         let (head, rest) = set.split_first_chunk::<4>()?;
