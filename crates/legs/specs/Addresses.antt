@@ -14,8 +14,8 @@ use Rattle.rules.specs.Links.{provenAt}
 use Rattle.laws.specs.Shift.{shown, getD-any}
 use Rattle.laws.specs.Chunk.{chunks}
 use Rattle.laws.specs.Store.{entries-count}
-use Rattle.links.specs.View.{pathOf, pathCount, noPath, viewLinks, FitLinks, linkCount, noLink}
-use Rattle.links.specs.Here.{paths-here, paths-fit}
+use Rattle.link_entry.specs.View.{pathOf, pathCount, noPath, viewLinks, FitLinks, linkCount, noLink}
+use Rattle.link_entry.specs.Here.{paths-here, paths-fit}
 use Rattle.legs.specs.Stored.{reach}
 
 abbrev pub linkAt : Bytes → ℕ → LinkRec

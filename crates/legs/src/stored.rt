@@ -1,10 +1,10 @@
 // The search for a stored msg2: over the links in ascending order and the addresses of each, left at the first leg that yields one.
 use crate::map::find_leg;
 use leg_entry::at::stored_at;
-use links::read::link_count;
-use links::read::no_at;
-use links::read::released_at;
-use links::read::setup_is;
+use link_entry::read::link_count;
+use link_entry::read::no_at;
+use link_entry::read::released_at;
+use link_entry::read::setup_is;
 use memory::read::get_byte;
 use node_addr::Found;
 use node_addr::LinkNo;
@@ -22,7 +22,7 @@ ghost use Rattle.rules.specs.Links.{provenAt};
 ghost use Rattle.rules.specs.Settle.{storedIn};
 ghost use Rattle.laws.specs.Chunk.{chunks};
 ghost use Rattle.node_addr.specs.View.{FitMessage, viewMessage, FitPair, viewPair};
-ghost use Rattle.links.specs.View.{pathOf, FitPaths, pathCount, FitLinks, viewLinks, linkCount};
+ghost use Rattle.link_entry.specs.View.{pathOf, FitPaths, pathCount, FitLinks, viewLinks, linkCount};
 ghost use Rattle.leg_entry.specs.View.{FitLegs, viewLegs};
 ghost use Rattle.legs.specs.Stored.{Tells, yieldOf, reach};
 ghost use Rattle.legs.specs.Addresses.{linkAt};

@@ -15,9 +15,10 @@ use Rattle.laws.specs.Shift.{Kept, erase, all-replicate}
 use Rattle.laws.specs.Scan.{scan, shows-cons, length-shows}
 use Rattle.laws.specs.Place.{find-at, find-nowhere, any-at, any-nowhere, without-at}
 use Rattle.node_addr.specs.View.{FitPair, viewPair, blankPair, fit-blank-pair}
-use Rattle.links.specs.View.{noLink, viewPath, viewLink, FitRec, viewCloses, FitCloses}
-use Rattle.links.specs.declared.record.Path as path
-use Rattle.links.specs.declared.record.LinkRec as linkrec
+use Rattle.link_entry.specs.View.{noLink, viewPath, viewLink, FitRec}
+use Rattle.links.specs.View.{viewCloses, FitCloses}
+use Rattle.link_entry.specs.declared.record.Path as path
+use Rattle.link_entry.specs.declared.record.LinkRec as linkrec
 use Rattle.links.specs.declared.record.Closes as closes
 
 pub closes-none : Kept FitPair blankPair 5 0 (replicate 5 blankPair)

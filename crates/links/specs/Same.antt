@@ -15,7 +15,7 @@ use Rattle.laws.specs.Chunk.{chunks, joined}
 use Rattle.laws.specs.Fields.{cuts, sum}
 use Rattle.laws.specs.Store.{Store, entries, same-view}
 use Rattle.node_addr.specs.Place.{pair-cell-same}
-use Rattle.links.specs.View.{stateOf, pathOf, FitPath, viewPaths, FitPaths, linkWs, dirOf, holderOf, linkOf, FitHolder, FitLink, viewLinks, FitLinks}
+use Rattle.link_entry.specs.View.{stateOf, pathOf, FitPath, viewPaths, FitPaths, linkWs, dirOf, holderOf, linkOf, FitHolder, FitLink, viewLinks, FitLinks}
 
 -- ---- a region whose entries are of bytes too
 all-and : {A : Type 0} (P Q : A → Type 0) (xs : List A) → All P xs → All Q xs → All (λ (x : A). P x × Q x) xs

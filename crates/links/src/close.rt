@@ -1,11 +1,11 @@
 // The connections that a link leaves to close.
-use crate::read::find_link;
-use crate::read::get_link;
-use crate::read::in_use;
 use crate::record::Closes;
-use crate::record::LinkRec;
 use crate::write::release_at;
 use crate::write::remove_link;
+use link_entry::read::find_link;
+use link_entry::read::get_link;
+use link_entry::read::in_use;
+use link_entry::record::LinkRec;
 use node_addr::Found;
 use node_addr::LinkNo;
 use node_addr::Pair;
@@ -19,7 +19,8 @@ ghost use Rattle.rules.specs.Base.{if_then_else_, any, keep};
 ghost use Rattle.rules.specs.Data.{samePair};
 ghost use Rattle.rules.specs.Links.{inUse, addresses, retired, retiring, released, releasing};
 ghost use Rattle.node_addr.specs.View.{FitPair, viewPair};
-ghost use Rattle.links.specs.View.{FitLinks, viewLinks, FitRec, viewLink, FitCloses, viewCloses};
+ghost use Rattle.link_entry.specs.View.{FitLinks, viewLinks, FitRec, viewLink};
+ghost use Rattle.links.specs.View.{FitCloses, viewCloses};
 
 pub fn no_closes() -> Closes
     ensures { λ r. ⌜ FitCloses r ⌝ }

@@ -1,11 +1,11 @@
 // Link records changed where they stand.
-use crate::paths::drop_paths;
-use crate::paths::put_path;
-use crate::read::find_link;
-use crate::read::released_at;
-use crate::read::setup_is;
-use crate::record::Dir;
-use crate::record::Proven;
+use link_entry::paths::drop_paths;
+use link_entry::paths::put_path;
+use link_entry::read::find_link;
+use link_entry::read::released_at;
+use link_entry::read::setup_is;
+use link_entry::record::Dir;
+use link_entry::record::Proven;
 use memory::write::clear;
 use memory::write::put_16;
 use memory::write::put_be;
@@ -26,7 +26,7 @@ ghost use Rattle.rules.specs.Data.{APeer};
 ghost use Rattle.rules.specs.Links.{opened, heldBy, hold, withPath, path, retired, withoutPath};
 ghost use Rattle.laws.specs.Shift.{erase};
 ghost use Rattle.node_addr.specs.View.{FitPair, viewPair};
-ghost use Rattle.links.specs.View.{FitLinks, viewLinks, linkCount, noLink, dirCode, viewDir, viewProven, full, crowding, markedAt, cutAt};
+ghost use Rattle.link_entry.specs.View.{FitLinks, viewLinks, linkCount, noLink, dirCode, viewDir, viewProven, full, crowding, markedAt, cutAt};
 
 fn dir_code(d: Dir) -> u8
     ensures { λ r. ⌜ r ≡ dirCode (viewDir d) ⌝ }

@@ -3,7 +3,7 @@ use native.Mathlib.Omega.{arith}
 use Prim.Native.Nat.{_+_, _-_, _*_}
 use mathlib.Core.Path.{_≡_}
 use Rattle.legs.specs.Addresses.{setup-released, setup-counts, path-within, path-counts}
-use Rattle.links.specs.Here.{paths-fit}
+use Rattle.link_entry.specs.Here.{paths-fit}
 use Rattle.node_addr.specs.View.{viewPair}
 use borrow.Author.Needs.{needs}
 use Rattle.legs.proofs.stored.reached.Statement.{statement}

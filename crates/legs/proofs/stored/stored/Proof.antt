@@ -4,7 +4,7 @@ use mathlib.Core.Path.{_∙_, _≡_, refl}
 use Rattle.legs.specs.Addresses.{linkAt, links-count}
 use Rattle.legs.specs.Stored.{yieldOf, reach, Reaching, reaching-start, reaching-hit, reaching-skip, reaching-end, Looking, looking-start, looking-hit, looking-skip, looking-end, tells-no, tells-none, tells-on}
 use Rattle.leg_entry.specs.View.{viewLegs}
-use Rattle.links.specs.View.{viewLinks, noLink}
+use Rattle.link_entry.specs.View.{viewLinks, noLink}
 use Rattle.node_addr.specs.View.{viewPair, viewMessage}
 use Rattle.rules.specs.Settle.{storedOn, storedIn}
 use native.Mathlib.Omega.{arith}

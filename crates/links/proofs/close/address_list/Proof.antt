@@ -2,13 +2,13 @@
 use Prim.Native.Nat.{_-_}
 use Rattle.laws.specs.Shift.{fit-at}
 use Rattle.links.specs.Close.{Listing, listing-end, listing-start, listing-turn}
-use Rattle.links.specs.View.{viewLink, viewPath}
+use Rattle.link_entry.specs.View.{viewLink, viewPath}
 use Rattle.node_addr.specs.View.{viewPair}
 use Rattle.rules.specs.Links.{addresses}
 use borrow.Author.Needs.{needs}
 use mathlib.Core.Path.{_∙_}
 use native.Mathlib.Omega.{arith}
-use Rattle.links.specs.declared.record.Path as path
+use Rattle.link_entry.specs.declared.record.Path as path
 use Rattle.links.proofs.close.address_list.Statement.{statement}
 use Rattle.links.proofs.close.address_list.Tie as tie
 

@@ -3,7 +3,7 @@ use Rattle.laws.specs.Shift.{gone}
 use Rattle.laws.specs.Store.{entry-within}
 use Rattle.links.specs.Change.{drop-done, drop-none}
 use Rattle.links.specs.Close.{retiring-is, retiring-none}
-use Rattle.links.specs.View.{linkOf}
+use Rattle.link_entry.specs.View.{linkOf}
 use Rattle.node_addr.specs.View.{finds-at, finds-none}
 use Rattle.rules.specs.Links.{addresses}
 use borrow.Author.Needs.{needs}

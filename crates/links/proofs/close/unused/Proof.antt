@@ -2,7 +2,8 @@
 use Prim.Native.Nat.{_-_}
 use Rattle.laws.specs.Shift.{fit-at}
 use Rattle.links.specs.Close.{Picking, picking-end, picking-start, picking-turn}
-use Rattle.links.specs.View.{viewCloses, viewLinks}
+use Rattle.link_entry.specs.View.{viewLinks}
+use Rattle.links.specs.View.{viewCloses}
 use Rattle.node_addr.specs.View.{viewPair}
 use Rattle.rules.specs.Base.{keep}
 use Rattle.rules.specs.Links.{inUse}

@@ -2,7 +2,7 @@
 use Rattle.laws.specs.Splice.{wrote-then}
 use Rattle.laws.specs.Store.{pushed-is}
 use Rattle.links.specs.Change.{opened-fit, opened-shows}
-use Rattle.links.specs.View.{linkOf, viewDir}
+use Rattle.link_entry.specs.View.{linkOf, viewDir}
 use borrow.Author.Needs.{needs}
 use lib.ListN.{length-set}
 use native.Mathlib.Omega.{arith}
