@@ -1,6 +1,9 @@
 //! The stored tapes of crates/replay through the wrapper: the bytes are those that the original table wrote.
 use settle::{OUT, Table};
-use std::{fs, path::PathBuf};
+use std::io::Write;
+use std::path::{Path, PathBuf};
+use std::process::{Command, Stdio};
+use std::{fs, thread};
 
 fn stored(name: &str) -> Vec<u8> {
     let file = PathBuf::from(env!("CARGO_MANIFEST_DIR")).join("../../crates/replay").join(name);
@@ -64,4 +67,31 @@ fn the_original_answers_the_same() {
     }
     assert_eq!(tapes, 236);
     assert!(told == stored("stdout"), "the bytes differ");
+}
+
+/// The original table itself, where it was compiled (oracle/build): fresh tapes of every profile.
+#[test]
+fn the_original_beside_it() {
+    let oracle = PathBuf::from(env!("CARGO_MANIFEST_DIR")).join("../../target/oracle/oracle");
+    if !oracle.exists() {
+        return eprintln!("no oracle: nothing compared");
+    }
+    for profile in ["few", "full", "gates", "extreme", "last", "damaged", "mixed"] {
+        for seed in 0..10 {
+            let tape = asked(&oracle, &["generate", profile, &seed.to_string()], &[]);
+            let mut told = Vec::new();
+            run(&tape, &mut told);
+            assert!(told == asked(&oracle, &["run"], &tape), "{profile} {seed} differs");
+        }
+    }
+}
+
+fn asked(oracle: &Path, words: &[&str], input: &[u8]) -> Vec<u8> {
+    let mut child = Command::new(oracle).args(words).stdin(Stdio::piped()).stdout(Stdio::piped()).spawn().expect("the oracle runs");
+    let mut stdin = child.stdin.take().expect("a pipe");
+    let bytes = input.to_vec();
+    let feeder = thread::spawn(move || stdin.write_all(&bytes));
+    let out = child.wait_with_output().expect("the oracle ends").stdout;
+    let _ = feeder.join();
+    out
 }
