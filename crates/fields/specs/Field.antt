@@ -1,11 +1,11 @@
 -- Flags, pairs and messages, as they stand at the front of what is left of a record.
 use mathlib.Core.Path.{_≡_, refl, sym, ap, _∙_}
-use mathlib.Core.Bool.{Bool, true, false}
+use mathlib.Core.Bool.{Bool, true, false, not}
 use mathlib.Core.Option.{Option, none, some}
 use mathlib.Core.List.{List, [], _∷_, _++_}
 use Prim.Native.Nat.{ℕ, zero, suc, _+_, _*_, _-_, _≤_, _<_}
 use native.Mathlib.Omega.{arith}
-use borrow.Author.Tests.{leb-true, leb-false}
+use borrow.Author.Tests.{leb-true, leb-false, not-false}
 use lib.Dec.{eqb, leb}
 use lib.Seq.{drop-drop, length-take-le}
 use lib.ListN.{length, take, drop, getD, replicate, length-drop}
@@ -18,13 +18,23 @@ use Rattle.node_addr.specs.declared.Pair as pairs
 use Rattle.node_addr.specs.declared.Message as messages
 use Rattle.fields.specs.declared.ReadPair as readpair
 use Rattle.fields.specs.declared.ReadMessage as readmessage
-use Rattle.fields.specs.Told.{Told, told-some, told-yes, told-no, below, meant, code-is}
+use Rattle.fields.specs.declared.Span as spans
+use Rattle.fields.specs.Told.{Told, told-some, told-yes, told-no, told-room, below, meant, code-is}
 
 abbrev pub noPair : readpair.ReadPair
 noPair = record { ok = false; value = blankPair }
 
 abbrev pub noMessage : readmessage.ReadMessage
 noMessage = record { ok = false; value = blankMessage }
+
+-- ---- a message where it stands in a record
+
+abbrev pub spanOf : Bytes → spans.Span → Bytes
+spanOf s m = take (m .len) (drop (m .at) s)
+
+pub record FitSpan (s : Bytes) (m : spans.Span) : Type 0 where
+  pub small : m .len ≤ 128
+  pub room : m .at + m .len ≤ length s
 
 -- ---- two bytes
 pub two-is : (s : Bytes) (a b : ℕ) → 2 ≤ length s → a ≡ getD s 0 0 → b ≡ getD s 1 0 → a * 256 + b ≡ more 0 (take 2 s)
@@ -103,10 +113,16 @@ module _ (s : Bytes) where
     pub message-cut : n ≤ 128 → length s - 2 < n → message s ≡ none
     message-cut k q = sized ∙ upTo-no n (drop 2 s) 128 k (rw length-drop q)
 
-    pub message-told : {bs : Bytes} → n ≤ 128 → n ≤ length s - 2 → bs ≡ take n (drop 2 s) ++ replicate (128 - n) 0 → Told [] (message s) true (take n bs) (2 + n) s
-    message-told {bs} k q eb =
-        let l : length (take n (drop 2 s)) ≡ n = length-take-le n (drop 2 s) (rw length-drop q) in
-        told-some (sized ∙ rw (upTo-yes n (drop 2 s) 128 k (rw length-drop q), shown-filled (take n (drop 2 s)) (128 - n) n bs l eb, drop-drop n 2 s)) (omega arith)
+    pub message-told : n ≤ 128 → n ≤ length s - 2 → Told [] (message s) true (take n (drop 2 s)) (2 + n) s
+    message-told k q = told-some (sized ∙ rw (upTo-yes n (drop 2 s) 128 k (rw length-drop q), drop-drop n 2 s)) (omega arith)
 
-    pub message-fits : {bs : Bytes} → n ≤ 128 → n ≤ length s - 2 → bs ≡ take n (drop 2 s) ++ replicate (128 - n) 0 → FitMessage (record { len = n; bytes = bs })
-    message-fits {bs} k q eb = record { kept = kept-filled (take n (drop 2 s)) 128 n bs (length-take-le n (drop 2 s) (rw length-drop q)) k eb }
+  -- the same, copied
+  module _ (n : ℕ) {ok : Bool} {bs : Bytes} (t : Told [] (message s) ok (take n (drop 2 s)) (2 + n) s) (g : not ok ≡ false) (eb : bs ≡ take n (drop 2 s) ++ replicate (128 - n) 0) where
+    span-length : length (take n (drop 2 s)) ≡ n
+    span-length = let r = told-room t (not-false ok g) in length-take-le n (drop 2 s) (rw length-drop (omega (arith, r)))
+
+    pub message-copied : Told [] (message s) true (take n bs) (2 + n) s
+    message-copied = told-some (told-yes t (not-false ok g) ∙ rw (shown-filled (take n (drop 2 s)) (128 - n) n bs span-length eb)) (told-room t (not-false ok g))
+
+    pub message-fits : n ≤ 128 → FitMessage (record { len = n; bytes = bs })
+    message-fits k = record { kept = kept-filled (take n (drop 2 s)) 128 n bs span-length k eb }

@@ -61,6 +61,18 @@ pub struct ReadMessage {
     pub value: Message,
 }
 
+// How many bytes a field has that stays where it stands.
+pub struct ReadSpan {
+    pub ok: bool,
+    pub len: usize,
+}
+
+// A message where it stands in a record: its first byte, and how many.
+pub struct Span {
+    pub at: usize,
+    pub len: usize,
+}
+
 fn wide(x: u8) -> usize
     ensures { λ r. ⌜ r ≡ x ⌝ }
     ensures { λ r. ⌜ r < 256 ⌝ }
@@ -254,19 +266,32 @@ fn no_message() -> ReadMessage
     }
 }
 
-// A length of at most 128, and so many bytes.
+// A length of at most 128, and so many bytes, which stay where they stand.
+pub fn message_span(rest: &[u8]) -> ReadSpan
+    ensures { λ r. ⌜ Told [] (message (now (rest .entry))) (r .ok) (take (r .len) (drop 2 (now (rest .entry)))) (2 + r .len) (now (rest .entry)) ⌝ }
+    ensures { λ r. ⌜ r .len ≤ 128 ⌝ }
+{
+    if rest.len() < 2 {
+        return ReadSpan { ok: false, len: 0 };
+    }
+    let n = two_bytes(rest);
+    if 128 < n {
+        return ReadSpan { ok: false, len: 0 };
+    }
+    if rest.len() - 2 < n {
+        return ReadSpan { ok: false, len: 0 };
+    }
+    ReadSpan { ok: true, len: n }
+}
+
+// The same, by value.
 pub fn read_message(rest: &[u8]) -> ReadMessage
     ensures { λ r. ⌜ Told [] (message (now (rest .entry))) (r .ok) (viewMessage (r .value)) (2 + r .value .len) (now (rest .entry)) ⌝ }
     ensures { λ r. ⌜ FitMessage (r .value) ⌝ }
 {
-    if rest.len() < 2 {
-        return no_message();
-    }
-    let n = two_bytes(rest);
-    if 128 < n {
-        return no_message();
-    }
-    if rest.len() - 2 < n {
+    let m = message_span(rest);
+    let n = m.len;
+    if !m.ok {
         return no_message();
     }
     let b = take_128(rest, 2, n);

@@ -2,16 +2,17 @@
 use mathlib.Core.Path.{_≡_, refl}
 use mathlib.Core.Bool.{Bool, true, false, not}
 use mathlib.Core.Option.{Option, none, some}
-use mathlib.Core.List.{List}
+use mathlib.Core.List.{List, []}
 use Prim.Native.Nat.{ℕ, _+_, _-_, _^_, _≤_, _<_}
 use native.Mathlib.Omega.{arith}
 use borrow.Author.Needs.{needs}
 use borrow.Author.Tests.{not-true, not-false}
+use lib.Seq.{drop-drop}
 use lib.ListN.{length, take, drop, getD, length-drop}
 use mir.Syntax.{w64}
 use mir.Val.{Fits}
 use Rattle.rules.specs.Base.{if_then_else_, Bytes}
-use Rattle.rules.specs.Field.{Reader, code}
+use Rattle.rules.specs.Field.{Reader, code, message}
 use Rattle.laws.specs.Parse.{rest-of}
 use Rattle.laws.specs.Follow.{Stepped, stepped-off, stepped-none, stepped-some}
 use Rattle.fields.specs.Told.{Told, told-yes, told-no, told-room, below, code-is}
@@ -33,6 +34,16 @@ pub stepped-fits : {A : Type 0} {b : A} {o : Option (A × Bytes)} {ok : Bool} {v
 stepped-fits {ok = ok} at s t q r l = let m = rw length-drop at (rw rest-of at (told-room t (not-false ok q))) in omega arith
 
 pub ruleset stepping = (needs, stepped-off, stepped-no, stepped-yes, stepped-fits)
+
+-- a message that stays where it stands
+module _ (at n : ℕ) (s : Bytes) {ok′ : Bool}
+    (t : Told [] (message (take (length s - at) (drop at s))) ok′ (take n (drop 2 (take (length s - at) (drop at s)))) (2 + n) (take (length s - at) (drop at s)))
+    (r : at ≤ length s) (q : not ok′ ≡ false) where
+  pub span-yes : {ok : Bool} → not ok ≡ false → Stepped message ok at s true (take n (drop (at + 2) s)) (at + (2 + n))
+  span-yes {ok} h = simp (rest-of, drop-drop) at (stepped-yes {p = message} {ok = ok} {s = s} t h r q)
+
+  pub span-room : at + 2 + n ≤ length s
+  span-room = let m = rw length-drop at (rw rest-of at (told-room t (not-false ok′ q))) in omega (arith, m)
 
 -- a code, by the byte that was read for it
 pub coded : {A : Type 0} (ms : List A) (d : A) {ok : Bool} {at : ℕ} {s : Bytes} {ok′ : Bool} {v at′ : ℕ} → Stepped (below (length ms)) ok at s ok′ v at′ → Stepped (code ms) ok at s ok′ (getD ms v d) at′

@@ -1,4 +1,6 @@
 // Readers in a row: each is told whether all went well so far and where its field begins, hands the rest of the record to the field's reader, and passes both on.
+use fields::Span;
+use fields::message_span;
 use fields::read_byte;
 use fields::read_code;
 use fields::read_digest;
@@ -21,6 +23,7 @@ ghost use Rattle.rules.specs.Field.{number, peer, lease, digest, flag, pair, me
 ghost use Rattle.laws.specs.Follow.{Stepped};
 ghost use Rattle.node_addr.specs.View.{viewPair, viewMessage, FitPair, FitMessage};
 ghost use Rattle.fields.specs.Told.{below};
+ghost use Rattle.fields.specs.Field.{spanOf, FitSpan};
 
 pub struct PeerAt {
     pub ok: bool,
@@ -67,6 +70,12 @@ pub struct PairAt {
 pub struct MessageAt {
     pub ok: bool,
     pub value: Message,
+    pub at: usize,
+}
+
+pub struct SpanAt {
+    pub ok: bool,
+    pub value: Span,
     pub at: usize,
 }
 
@@ -324,6 +333,38 @@ pub fn message_at(s: &[u8], ok: bool, at: usize) -> MessageAt
     MessageAt {
         ok: true,
         value: value,
+        at: at + (2 + n),
+    }
+}
+
+// A message, which stays where it stands.
+pub fn span_at(s: &[u8], ok: bool, at: usize) -> SpanAt
+    requires { ⌜ at ≤ length (now s) ⌝ }
+    ensures { λ r. ⌜ Stepped message ok at (now (s .entry)) (r .ok) (spanOf (now (s .entry)) (r .value)) (r .at) ⌝ }
+    ensures { λ r. ⌜ FitSpan (now (s .entry)) (r .value) ⌝ }
+{
+    let w = message_span(&s[at..]);
+    let n = w.len;
+    if !ok {
+        return SpanAt {
+            ok: false,
+            value: Span { at: at, len: 0 },
+            at: at,
+        };
+    }
+    if !w.ok {
+        return SpanAt {
+            ok: false,
+            value: Span { at: at, len: 0 },
+            at: at,
+        };
+    }
+    SpanAt {
+        ok: true,
+        value: Span {
+            at: at + 2,
+            len: n,
+        },
         at: at + (2 + n),
     }
 }
