@@ -1,34 +1,68 @@
 // The fields of the calls that carry a message, after their clock: readers in a row, up to the record's end.
-use calls::Call;
-use calls::ReadCall;
-use calls::blank_call;
+use calls::Hello;
+use fields::Span;
+use node_addr::Message;
+use node_addr::NodeAddr;
+use node_addr::Pair;
 use rows::digest_at;
 use rows::flag_at;
 use rows::lease_at;
 use rows::message_at;
 use rows::pair_at;
 use rows::peer_at;
+use rows::span_at;
 use rows::whole;
 use rows::word_at;
+ghost use mathlib.Core.Bool.{true};
 ghost use Prim.Native.Nat.{_≤_};
 ghost use lib.ListN.{length};
+ghost use Rattle.rules.specs.Data.{Call};
 ghost use Rattle.rules.specs.Record.{hello, dialFields, arrivedFields, msg1Fields, replacementFields};
 ghost use Rattle.laws.specs.Follow.{Stepped};
-ghost use Rattle.calls.specs.Call.{Read, helloOf};
-ghost use Rattle.hellos.specs.Hello.{Greets};
+ghost use Rattle.node_addr.specs.View.{viewPair, viewMessage, FitPair, FitMessage};
+ghost use Rattle.fields.specs.Field.{spanOf, FitSpan};
+ghost use Rattle.calls.specs.Read.{Reads};
+ghost use Rattle.calls.specs.Hello.{helloOf, FitHello};
+
+pub struct DialFields {
+    pub ok: bool,
+    pub peer: NodeAddr,
+    pub pair: Pair,
+    pub message: Message,
+    pub lease: u32,
+}
+
+pub struct ArrivedFields {
+    pub ok: bool,
+    pub pair: Pair,
+    pub message: Span,
+}
 
 pub struct HelloAt {
     pub ok: bool,
-    pub call: Call,
+    pub hello: Hello,
     pub at: usize,
 }
 
+pub struct Msg1Fields {
+    pub ok: bool,
+    pub hello: Hello,
+    pub reachable: bool,
+}
+
+pub struct ReplacementFields {
+    pub ok: bool,
+    pub hello: Hello,
+}
+
 // 1 dial: peer, pair, msg1, lease.
-pub fn dial_fields(s: &[u8], ok: bool, at: usize, clock: u64) -> ReadCall
+pub fn dial_fields(s: &[u8], at: usize) -> DialFields
     requires { ⌜ at ≤ length (now s) ⌝ }
-    ensures { λ r. ⌜ Read dialFields clock ok at (now (s .entry)) r ⌝ }
+    ensures { λ r. ⌜ Reads dialFields at (now (s .entry)) (r .ok) (Call.Dial (r .peer .0) (viewPair (r .pair)) (viewMessage (r .message)) (r .lease)) ⌝ }
+    ensures { λ r. ⌜ FitPair (r .pair) ⌝ }
+    ensures { λ r. ⌜ FitMessage (r .message) ⌝ }
 {
-    let p = peer_at(s, ok, at);
+    let p = peer_at(s, true, at);
     let t = pair_at(s, p.ok, p.at);
     let m = message_at(s, t.ok, t.at);
     let l = lease_at(s, m.ok, m.at);
@@ -36,95 +70,95 @@ pub fn dial_fields(s: &[u8], ok: bool, at: usize, clock: u64) -> ReadCall
     let peer = p.value;
     let pair = t.value;
     let message = m.value;
-    let mut call = blank_call(1, clock);
-    call.peer = peer;
-    call.pair = pair;
-    call.message = message;
-    call.lease = l.value;
-    ReadCall {
+    DialFields {
         ok: good,
-        call: call,
+        peer: peer,
+        pair: pair,
+        message: message,
+        lease: l.value,
     }
 }
 
 // 3 arrived: pair, message.
-pub fn arrived_fields(s: &[u8], ok: bool, at: usize, clock: u64) -> ReadCall
+pub fn arrived_fields(s: &[u8], at: usize) -> ArrivedFields
     requires { ⌜ at ≤ length (now s) ⌝ }
-    ensures { λ r. ⌜ Read arrivedFields clock ok at (now (s .entry)) r ⌝ }
+    ensures { λ r. ⌜ Reads arrivedFields at (now (s .entry)) (r .ok) (Call.Arrived (viewPair (r .pair)) (spanOf (now (s .entry)) (r .message))) ⌝ }
+    ensures { λ r. ⌜ FitPair (r .pair) ⌝ }
+    ensures { λ r. ⌜ FitSpan (now (s .entry)) (r .message) ⌝ }
 {
-    let f = pair_at(s, ok, at);
-    let m = message_at(s, f.ok, f.at);
+    let f = pair_at(s, true, at);
+    let m = span_at(s, f.ok, f.at);
     let good = whole(s, m.ok, m.at);
     let pair = f.value;
     let message = m.value;
-    let mut call = blank_call(3, clock);
-    call.pair = pair;
-    call.message = message;
-    ReadCall {
+    ArrivedFields {
         ok: good,
-        call: call,
+        pair: pair,
+        message: message,
     }
 }
 
 // What msg1 and replacement share: peer, pair, message, digest, epoch, msg2, lease.
-pub fn hello_at(s: &[u8], ok: bool, at: usize, kind: u8, clock: u64) -> HelloAt
+pub fn hello_at(s: &[u8], at: usize) -> HelloAt
     requires { ⌜ at ≤ length (now s) ⌝ }
-    ensures { λ r. ⌜ Stepped hello ok at (now (s .entry)) (r .ok) (helloOf (r .call)) (r .at) ⌝ }
-    ensures { λ r. ⌜ Greets kind clock (r .call) ⌝ }
+    ensures { λ r. ⌜ Stepped hello true at (now (s .entry)) (r .ok) (helloOf (now (s .entry)) (r .hello)) (r .at) ⌝ }
+    ensures { λ r. ⌜ FitHello (now (s .entry)) (r .hello) ⌝ }
 {
-    let p = peer_at(s, ok, at);
+    let p = peer_at(s, true, at);
     let f = pair_at(s, p.ok, p.at);
-    let b = message_at(s, f.ok, f.at);
+    let b = span_at(s, f.ok, f.at);
     let d = digest_at(s, b.ok, b.at);
     let e = word_at(s, d.ok, d.at);
-    let m = message_at(s, e.ok, e.at);
+    let m = span_at(s, e.ok, e.at);
     let l = lease_at(s, m.ok, m.at);
     let peer = p.value;
     let pair = f.value;
     let message = b.value;
     let digest = d.value;
     let msg2 = m.value;
-    let mut call = blank_call(kind, clock);
-    call.peer = peer;
-    call.pair = pair;
-    call.message = message;
-    call.digest = digest;
-    call.epoch = e.value;
-    call.msg2 = msg2;
-    call.lease = l.value;
     HelloAt {
         ok: l.ok,
-        call: call,
+        hello: Hello {
+            peer: peer,
+            pair: pair,
+            message: message,
+            digest: digest,
+            epoch: e.value,
+            msg2: msg2,
+            lease: l.value,
+        },
         at: l.at,
     }
 }
 
 // 4 msg1: these, reachable flag.
-pub fn msg1_fields(s: &[u8], ok: bool, at: usize, clock: u64) -> ReadCall
+pub fn msg1_fields(s: &[u8], at: usize) -> Msg1Fields
     requires { ⌜ at ≤ length (now s) ⌝ }
-    ensures { λ r. ⌜ Read msg1Fields clock ok at (now (s .entry)) r ⌝ }
+    ensures { λ r. ⌜ Reads msg1Fields at (now (s .entry)) (r .ok) (Call.Msg1 (helloOf (now (s .entry)) (r .hello)) (r .reachable)) ⌝ }
+    ensures { λ r. ⌜ FitHello (now (s .entry)) (r .hello) ⌝ }
 {
-    let h = hello_at(s, ok, at, 4, clock);
+    let h = hello_at(s, at);
     let f = flag_at(s, h.ok, h.at);
     let good = whole(s, f.ok, f.at);
-    let mut call = h.call;
-    call.flag = f.value;
-    ReadCall {
+    let hello = h.hello;
+    Msg1Fields {
         ok: good,
-        call: call,
+        hello: hello,
+        reachable: f.value,
     }
 }
 
 // 5 replacement: these.
-pub fn replacement_fields(s: &[u8], ok: bool, at: usize, clock: u64) -> ReadCall
+pub fn replacement_fields(s: &[u8], at: usize) -> ReplacementFields
     requires { ⌜ at ≤ length (now s) ⌝ }
-    ensures { λ r. ⌜ Read replacementFields clock ok at (now (s .entry)) r ⌝ }
+    ensures { λ r. ⌜ Reads replacementFields at (now (s .entry)) (r .ok) (Call.Replacement (helloOf (now (s .entry)) (r .hello))) ⌝ }
+    ensures { λ r. ⌜ FitHello (now (s .entry)) (r .hello) ⌝ }
 {
-    let h = hello_at(s, ok, at, 5, clock);
+    let h = hello_at(s, at);
     let good = whole(s, h.ok, h.at);
-    let call = h.call;
-    ReadCall {
+    let hello = h.hello;
+    ReplacementFields {
         ok: good,
-        call: call,
+        hello: hello,
     }
 }

@@ -1,8 +1,7 @@
 // The fields of the other calls, after their clock: readers in a row, up to the record's end.
-use calls::Call;
-use calls::ReadCall;
-use calls::blank_call;
 use node_addr::LinkNo;
+use node_addr::NodeAddr;
+use node_addr::Pair;
 use rows::code_at;
 use rows::flag_at;
 use rows::pair_at;
@@ -10,170 +9,180 @@ use rows::peer_at;
 use rows::whole;
 use rows::word_at;
 ghost use mathlib.Core.Path.{_≡_};
-ghost use mathlib.Core.Bool.{true};
-ghost use Prim.Native.Nat.{_≤_};
-ghost use lib.ListN.{length};
-ghost use Rattle.rules.specs.Field.{give, fail};
-ghost use Rattle.rules.specs.Record.{msg2Fields, restartedFields, heardFields, removeFields, pathFields, releaseFields};
-ghost use Rattle.calls.specs.Call.{Read, callOf, blankCall, kindFields, has};
-ghost use Rattle.shapes.specs.Shape.{linkKinds};
+ghost use Prim.Native.Nat.{ℕ, _≤_, _<_};
+ghost use lib.ListN.{length, getD};
+ghost use Rattle.rules.specs.Data.{Call, Live, Why};
+ghost use Rattle.rules.specs.Field.{whys, states};
+ghost use Rattle.rules.specs.Record.{linkFields, msg2Fields, restartedFields, heardFields, removeFields, pathFields, releaseFields};
+ghost use Rattle.node_addr.specs.View.{viewPair, FitPair};
+ghost use Rattle.calls.specs.Read.{Reads};
+
+pub struct LinkFields {
+    pub ok: bool,
+    pub link: LinkNo,
+}
+
+pub struct Msg2Fields {
+    pub ok: bool,
+    pub link: LinkNo,
+    pub epoch: u64,
+    pub pair: Pair,
+}
+
+pub struct RestartedFields {
+    pub ok: bool,
+    pub peer: NodeAddr,
+    pub epoch: u64,
+}
+
+pub struct HeardFields {
+    pub ok: bool,
+    pub peer: NodeAddr,
+    pub pair: Pair,
+}
+
+pub struct RemoveFields {
+    pub ok: bool,
+    pub peer: NodeAddr,
+    pub why: u8,
+}
+
+pub struct PathFields {
+    pub ok: bool,
+    pub link: LinkNo,
+    pub pair: Pair,
+    pub state: u8,
+}
+
+pub struct ReleaseFields {
+    pub ok: bool,
+    pub link: LinkNo,
+    pub pair: Pair,
+    pub keep: bool,
+}
+
+// 2 abandon, 6 sent, 7 unsent: link.
+pub fn link_fields(s: &[u8], at: usize) -> LinkFields
+    requires { ⌜ at ≤ length (now s) ⌝ }
+    ensures { λ r. ⌜ ((f : ℕ → Call) → Reads (linkFields f) at (now (s .entry)) (r .ok) (f (r .link .0))) ⌝ }
+{
+    let n = word_at(s, true, at);
+    let good = whole(s, n.ok, n.at);
+    let link = LinkNo(n.value);
+    LinkFields {
+        ok: good,
+        link: link,
+    }
+}
 
 // 8 msg2: link, epoch, pair.
-pub fn msg2_fields(s: &[u8], ok: bool, at: usize, clock: u64) -> ReadCall
+pub fn msg2_fields(s: &[u8], at: usize) -> Msg2Fields
     requires { ⌜ at ≤ length (now s) ⌝ }
-    ensures { λ r. ⌜ Read msg2Fields clock ok at (now (s .entry)) r ⌝ }
+    ensures { λ r. ⌜ Reads msg2Fields at (now (s .entry)) (r .ok) (Call.Msg2 (r .link .0) (r .epoch) (viewPair (r .pair))) ⌝ }
+    ensures { λ r. ⌜ FitPair (r .pair) ⌝ }
 {
-    let n = word_at(s, ok, at);
+    let n = word_at(s, true, at);
     let e = word_at(s, n.ok, n.at);
-    let f = pair_at(s, e.ok, e.at);
-    let good = whole(s, f.ok, f.at);
-    let pair = f.value;
+    let p = pair_at(s, e.ok, e.at);
+    let good = whole(s, p.ok, p.at);
+    let pair = p.value;
     let link = LinkNo(n.value);
-    let mut call = blank_call(8, clock);
-    call.link = link;
-    call.epoch = e.value;
-    call.pair = pair;
-    ReadCall {
+    Msg2Fields {
         ok: good,
-        call: call,
+        link: link,
+        epoch: e.value,
+        pair: pair,
     }
 }
 
 // 9 restarted: peer, epoch.
-pub fn restarted_fields(s: &[u8], ok: bool, at: usize, clock: u64) -> ReadCall
+pub fn restarted_fields(s: &[u8], at: usize) -> RestartedFields
     requires { ⌜ at ≤ length (now s) ⌝ }
-    ensures { λ r. ⌜ Read restartedFields clock ok at (now (s .entry)) r ⌝ }
+    ensures { λ r. ⌜ Reads restartedFields at (now (s .entry)) (r .ok) (Call.Restarted (r .peer .0) (r .epoch)) ⌝ }
 {
-    let p = peer_at(s, ok, at);
+    let p = peer_at(s, true, at);
     let e = word_at(s, p.ok, p.at);
     let good = whole(s, e.ok, e.at);
     let peer = p.value;
-    let mut call = blank_call(9, clock);
-    call.peer = peer;
-    call.epoch = e.value;
-    ReadCall {
+    RestartedFields {
         ok: good,
-        call: call,
+        peer: peer,
+        epoch: e.value,
     }
 }
 
 // 10 heard: peer, pair.
-pub fn heard_fields(s: &[u8], ok: bool, at: usize, clock: u64) -> ReadCall
+pub fn heard_fields(s: &[u8], at: usize) -> HeardFields
     requires { ⌜ at ≤ length (now s) ⌝ }
-    ensures { λ r. ⌜ Read heardFields clock ok at (now (s .entry)) r ⌝ }
+    ensures { λ r. ⌜ Reads heardFields at (now (s .entry)) (r .ok) (Call.Heard (r .peer .0) (viewPair (r .pair))) ⌝ }
+    ensures { λ r. ⌜ FitPair (r .pair) ⌝ }
 {
-    let p = peer_at(s, ok, at);
+    let p = peer_at(s, true, at);
     let f = pair_at(s, p.ok, p.at);
     let good = whole(s, f.ok, f.at);
     let peer = p.value;
     let pair = f.value;
-    let mut call = blank_call(10, clock);
-    call.peer = peer;
-    call.pair = pair;
-    ReadCall {
+    HeardFields {
         ok: good,
-        call: call,
+        peer: peer,
+        pair: pair,
     }
 }
 
 // 11 remove: peer, why.
-pub fn remove_fields(s: &[u8], ok: bool, at: usize, clock: u64) -> ReadCall
+pub fn remove_fields(s: &[u8], at: usize) -> RemoveFields
     requires { ⌜ at ≤ length (now s) ⌝ }
-    ensures { λ r. ⌜ Read removeFields clock ok at (now (s .entry)) r ⌝ }
+    ensures { λ r. ⌜ Reads removeFields at (now (s .entry)) (r .ok) (Call.Remove (r .peer .0) (getD whys (r .why) Why.Restart)) ⌝ }
+    ensures { λ r. ⌜ r .why < 9 ⌝ }
 {
-    let p = peer_at(s, ok, at);
+    let p = peer_at(s, true, at);
     let w = code_at(s, p.ok, p.at, 9);
     let good = whole(s, w.ok, w.at);
     let peer = p.value;
-    let mut call = blank_call(11, clock);
-    call.peer = peer;
-    call.code = w.value;
-    ReadCall {
+    RemoveFields {
         ok: good,
-        call: call,
+        peer: peer,
+        why: w.value,
     }
 }
 
 // 14 path: link, pair, state.
-pub fn path_fields(s: &[u8], ok: bool, at: usize, clock: u64) -> ReadCall
+pub fn path_fields(s: &[u8], at: usize) -> PathFields
     requires { ⌜ at ≤ length (now s) ⌝ }
-    ensures { λ r. ⌜ Read pathFields clock ok at (now (s .entry)) r ⌝ }
+    ensures { λ r. ⌜ Reads pathFields at (now (s .entry)) (r .ok) (Call.Path (r .link .0) (viewPair (r .pair)) (getD states (r .state) Live)) ⌝ }
+    ensures { λ r. ⌜ FitPair (r .pair) ⌝ }
+    ensures { λ r. ⌜ r .state < 3 ⌝ }
 {
-    let n = word_at(s, ok, at);
+    let n = word_at(s, true, at);
     let f = pair_at(s, n.ok, n.at);
     let v = code_at(s, f.ok, f.at, 3);
     let good = whole(s, v.ok, v.at);
     let pair = f.value;
     let link = LinkNo(n.value);
-    let mut call = blank_call(14, clock);
-    call.link = link;
-    call.pair = pair;
-    call.code = v.value;
-    ReadCall {
+    PathFields {
         ok: good,
-        call: call,
+        link: link,
+        pair: pair,
+        state: v.value,
     }
 }
 
 // 15 release: link, pair, keep flag.
-pub fn release_fields(s: &[u8], ok: bool, at: usize, clock: u64) -> ReadCall
+pub fn release_fields(s: &[u8], at: usize) -> ReleaseFields
     requires { ⌜ at ≤ length (now s) ⌝ }
-    ensures { λ r. ⌜ Read releaseFields clock ok at (now (s .entry)) r ⌝ }
+    ensures { λ r. ⌜ Reads releaseFields at (now (s .entry)) (r .ok) (Call.Release (r .link .0) (viewPair (r .pair)) (r .keep)) ⌝ }
+    ensures { λ r. ⌜ FitPair (r .pair) ⌝ }
 {
-    let n = word_at(s, ok, at);
+    let n = word_at(s, true, at);
     let f = pair_at(s, n.ok, n.at);
     let k = flag_at(s, f.ok, f.at);
     let good = whole(s, k.ok, k.at);
     let pair = f.value;
     let link = LinkNo(n.value);
-    let mut call = blank_call(15, clock);
-    call.link = link;
-    call.pair = pair;
-    call.flag = k.value;
-    ReadCall {
+    ReleaseFields {
         ok: good,
-        call: call,
-    }
-}
-
-// 2 abandon, 6 sent, 7 unsent: link.
-pub fn link_fields(s: &[u8], ok: bool, at: usize, kind: u8, clock: u64) -> ReadCall
-    requires { ⌜ has linkKinds kind ≡ true ⌝ }
-    requires { ⌜ at ≤ length (now s) ⌝ }
-    ensures { λ r. ⌜ Read (kindFields kind) clock ok at (now (s .entry)) r ⌝ }
-{
-    let n = word_at(s, ok, at);
-    let good = whole(s, n.ok, n.at);
-    let link = LinkNo(n.value);
-    let mut call = blank_call(kind, clock);
-    call.link = link;
-    ReadCall {
-        ok: good,
-        call: call,
-    }
-}
-
-// 12 poll, 13 close, 16 wake: no field.
-pub fn bare_fields(s: &[u8], ok: bool, at: usize, kind: u8, clock: u64) -> ReadCall
-    requires { ⌜ (1 ≤ kind) × (kind ≤ 16) ⌝ }
-    requires { ⌜ at ≤ length (now s) ⌝ }
-    ensures { λ r. ⌜ Read (give (callOf (blankCall kind clock))) clock ok at (now (s .entry)) r ⌝ }
-{
-    let good = whole(s, ok, at);
-    let call = blank_call(kind, clock);
-    ReadCall {
-        ok: good,
-        call: call,
-    }
-}
-
-// No kind of call.
-pub fn no_fields(s: &[u8], ok: bool, at: usize, clock: u64) -> ReadCall
-    ensures { λ r. ⌜ Read fail clock ok at (now (s .entry)) r ⌝ }
-{
-    let call = blank_call(12, clock);
-    ReadCall {
-        ok: false,
-        call: call,
+        link: link,
+        pair: pair,
+        keep: k.value,
     }
 }

@@ -1,22 +1,15 @@
-use borrow.Author.Needs.{needs}
-use mathlib.Core.Path.{refl}
-use lib.Dec.{lit≤, lit<}
+use mathlib.Core.Bool.{true}
 use Rattle.rules.specs.Record.{arrivedFields}
 use Rattle.laws.specs.Follow.{follows-start, follows-step}
-use Rattle.node_addr.specs.View.{fit-blank-message}
-use Rattle.calls.specs.Call.{callOf, read-end}
+use Rattle.calls.specs.Read.{reads-end}
+use borrow.Author.Needs.{needs}
 use Rattle.hellos.proofs.arrived_fields.Statement.{statement}
 use Rattle.hellos.proofs.arrived_fields.Tie as tie
 
 returns : tie.Need-returns
-unfolding arrivedFields callOf
+unfolding arrivedFields
 returns c =
-    let w = c .before .before .before in
-    let r2 = w .before in
-    let r1 = r2 .before in
-    rw (c .blank-call .ensures)
-    (read-end (follows-step _ (follows-step _ (follows-start arrivedFields _ _ _) (r1 .pair-at .ensures .0)) (r2 .message-at .ensures .0)) (r2 .message-at .ensures .0 .room) (w .whole .ensures) refl
-    (record { some = lit≤ tt; known = lit≤ tt; pair = r1 .pair-at .ensures .1; message = r2 .message-at .ensures .1; msg2 = fit-blank-message; code = lit< tt; blank = refl }))
+    (reads-end (follows-step _ (follows-step _ (follows-start arrivedFields true _ _) (c .before .before .before .before .pair-at .ensures .0)) (c .before .before .before .span-at .ensures .0)) (c .before .before .before .span-at .ensures .0 .room) (c .before .before .whole .ensures), (c .before .before .before .before .pair-at .ensures .1, c .before .before .before .span-at .ensures .1))
 
 pub arrived-fields-spec : {M : Type 1} → statement M
-arrived-fields-spec = tie.close (tie.spec (λ c κs. search needs) (λ c κs. search needs) (λ c κs. search needs) (λ c κs. search needs) returns)
+arrived-fields-spec = tie.close (tie.spec (λ c κs. search needs) (λ c κs. search needs) (λ c κs. search needs) returns)

@@ -1,22 +1,15 @@
-use borrow.Author.Needs.{needs}
-use mathlib.Core.Path.{refl}
-use lib.Dec.{lit≤, lit<}
+use mathlib.Core.Bool.{true}
 use Rattle.rules.specs.Record.{heardFields}
 use Rattle.laws.specs.Follow.{follows-start, follows-step}
-use Rattle.node_addr.specs.View.{fit-blank-message}
-use Rattle.calls.specs.Call.{callOf, read-end}
+use Rattle.calls.specs.Read.{reads-end}
+use borrow.Author.Needs.{needs}
 use Rattle.shapes.proofs.heard_fields.Statement.{statement}
 use Rattle.shapes.proofs.heard_fields.Tie as tie
 
 returns : tie.Need-returns
-unfolding heardFields callOf
+unfolding heardFields
 returns c =
-    let w = c .before .before .before in
-    let r2 = w .before in
-    let r1 = r2 .before in
-    rw (c .blank-call .ensures)
-    (read-end (follows-step _ (follows-step _ (follows-start heardFields _ _ _) (r1 .peer-at .ensures)) (r2 .pair-at .ensures .0)) (r2 .pair-at .ensures .0 .room) (w .whole .ensures) refl
-    (record { some = lit≤ tt; known = lit≤ tt; pair = r2 .pair-at .ensures .1; message = fit-blank-message; msg2 = fit-blank-message; code = lit< tt; blank = refl }))
+    (reads-end (follows-step _ (follows-step _ (follows-start heardFields true _ _) (c .before .before .before .before .peer-at .ensures)) (c .before .before .before .pair-at .ensures .0)) (c .before .before .before .pair-at .ensures .0 .room) (c .before .before .whole .ensures), c .before .before .before .pair-at .ensures .1)
 
 pub heard-fields-spec : {M : Type 1} → statement M
-heard-fields-spec = tie.close (tie.spec (λ c κs. search needs) (λ c κs. search needs) (λ c κs. search needs) (λ c κs. search needs) returns)
+heard-fields-spec = tie.close (tie.spec (λ c κs. search needs) (λ c κs. search needs) (λ c κs. search needs) returns)

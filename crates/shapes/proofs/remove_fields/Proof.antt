@@ -1,25 +1,18 @@
-use borrow.Author.Needs.{needs}
-use mathlib.Core.Path.{refl}
-use lib.Dec.{lit≤, lit<}
-use Rattle.rules.specs.Data.{Why}
-use Rattle.rules.specs.Field.{whys}
+use mathlib.Core.Bool.{true}
 use Rattle.rules.specs.Record.{removeFields}
 use Rattle.laws.specs.Follow.{follows-start, follows-step}
-use Rattle.node_addr.specs.View.{fit-blank-pair, fit-blank-message}
+use Rattle.calls.specs.Read.{reads-end}
+use Rattle.rules.specs.Data.{Why}
+use Rattle.rules.specs.Field.{whys}
 use Rattle.rows.specs.Row.{coded}
-use Rattle.calls.specs.Call.{callOf, read-end}
+use borrow.Author.Needs.{needs}
 use Rattle.shapes.proofs.remove_fields.Statement.{statement}
 use Rattle.shapes.proofs.remove_fields.Tie as tie
 
 returns : tie.Need-returns
-unfolding removeFields callOf
+unfolding removeFields
 returns c =
-    let w = c .before .before in
-    let r2 = w .before in
-    let r1 = r2 .before in
-    rw (c .blank-call .ensures)
-    (read-end (follows-step _ (follows-step _ (follows-start removeFields _ _ _) (r1 .peer-at .ensures)) (coded whys Why.Restart (r2 .code-at .ensures .0))) (r2 .code-at .ensures .0 .room) (w .whole .ensures) refl
-    (record { some = lit≤ tt; known = lit≤ tt; pair = fit-blank-pair; message = fit-blank-message; msg2 = fit-blank-message; code = r2 .code-at .ensures .1; blank = refl }))
+    (reads-end (follows-step _ (follows-step _ (follows-start removeFields true _ _) (c .before .before .before .peer-at .ensures)) (coded whys Why.Restart (c .before .before .code-at .ensures .0))) (c .before .before .code-at .ensures .0 .room) (c .before .whole .ensures), c .before .before .code-at .ensures .1)
 
 pub remove-fields-spec : {M : Type 1} → statement M
-remove-fields-spec = tie.close (tie.spec (λ c κs. search needs) (λ c κs. search needs) (λ c κs. search needs) (λ c κs. search needs) returns)
+remove-fields-spec = tie.close (tie.spec (λ c κs. search needs) (λ c κs. search needs) (λ c κs. search needs) returns)
