@@ -126,3 +126,14 @@ module _ (s : Bytes) where
 
     pub message-fits : n ≤ 128 → FitMessage (record { len = n; bytes = bs })
     message-fits k = record { kept = kept-filled (take n (drop 2 s)) 128 n bs span-length k eb }
+
+-- a message that stands in a record, copied
+module _ {s : Bytes} {m : spans.Span} {bs : Bytes} (f : FitSpan s m) (eb : bs ≡ spanOf s m ++ replicate (128 - m .len) 0) where
+  taken : length (spanOf s m) ≡ m .len
+  taken = length-take-le (m .len) (drop (m .at) s) (rw length-drop (omega (arith, f .room)))
+
+  pub copy-fits : FitMessage (record { len = m .len; bytes = bs })
+  copy-fits = record { kept = kept-filled (spanOf s m) 128 (m .len) bs taken (f .small) eb }
+
+  pub copy-shows : take (m .len) bs ≡ spanOf s m
+  copy-shows = shown-filled (spanOf s m) (128 - m .len) (m .len) bs taken eb

@@ -19,7 +19,7 @@ ghost use lib.ListN.{length, take, drop, replicate};
 ghost use Rattle.rules.specs.Field.{more, number, peer, lease, digest, flag, pair, message};
 ghost use Rattle.node_addr.specs.View.{viewPair, viewMessage, FitPair, FitMessage, blankPair, blankMessage};
 ghost use Rattle.fields.specs.Told.{Told, below};
-ghost use Rattle.fields.specs.Field.{noPair, noMessage};
+ghost use Rattle.fields.specs.Field.{noPair, noMessage, spanOf, FitSpan};
 
 pub struct ReadPeer {
     pub ok: bool,
@@ -299,4 +299,16 @@ pub fn read_message(rest: &[u8]) -> ReadMessage
         ok: true,
         value: Message { len: n, bytes: b },
     }
+}
+
+// A message that stands in a record, by value.
+pub fn message_of(s: &[u8], m: Span) -> Message
+    requires { ⌜ FitSpan (now s) m ⌝ }
+    ensures { λ r. ⌜ FitMessage r ⌝ }
+    ensures { λ r. ⌜ viewMessage r ≡ spanOf (now (s .entry)) m ⌝ }
+{
+    let at = m.at;
+    let n = m.len;
+    let b = take_128(s, at, n);
+    Message { len: n, bytes: b }
 }
