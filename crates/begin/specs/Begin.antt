@@ -16,7 +16,7 @@ use Rattle.laws.specs.Follow.{Stepped, Follows, follows-start, follows-step}
 use Rattle.params.specs.View.{viewParams}
 use Rattle.fields.specs.Told.{below}
 use Rattle.rows.specs.Row.{coded}
-use Rattle.calls.specs.Call.{follows-whole}
+use Rattle.calls.specs.Read.{follows-whole}
 use Rattle.input.specs.Frame.{heading, framed-is}
 use Rattle.begin.specs.declared.SpansAt as spansat
 use Rattle.begin.specs.declared.ReadNew as readnew

@@ -1,5 +1,5 @@
 // The record of new: its clock, which nothing uses, me, the first link number, and the settings by their form.
-use input::read::read_frame;
+use input::read_frame;
 use node_addr::NodeAddr;
 use params::Params;
 use params::default;

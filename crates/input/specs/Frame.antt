@@ -1,11 +1,11 @@
 -- The frame of a record: length (of what follows), version 1, kind; and what the whole record says, by its fields.
 use mathlib.Core.Path.{_≡_, refl, sym, ap, _∙_}
-use mathlib.Core.Bool.{Bool, true, false, _&&_}
+use mathlib.Core.Bool.{Bool, true, false, not, _&&_}
 use mathlib.Core.Option.{Option, none, some}
 use mathlib.Core.List.{List, [], _∷_}
 use Prim.Native.Nat.{ℕ, _+_, _≤_, _<_}
 use native.Mathlib.Omega.{arith}
-use borrow.Author.Tests.{leb-true, leb-false, eq-eqb, ne-eqb}
+use borrow.Author.Tests.{leb-true, leb-false, eq-eqb, ne-eqb, not-true, not-false}
 use lib.Dec.{eqb, leb, lit≤}
 use lib.Seq.{drop-drop}
 use lib.ListN.{length, take, drop, getD, length-drop}
@@ -15,9 +15,7 @@ use Rattle.rules.specs.Field.{Reader, give, fail, bind, number, clock, more}
 use Rattle.rules.specs.Record.{Timed, timed, finished, framed, readCall}
 use Rattle.laws.specs.Parse.{number-yes, number-no, byte-is}
 use Rattle.laws.specs.Follow.{Stepped, Follows, follows-start, follows-step}
-use Rattle.calls.specs.Call.{Read, callOf, timedOf, kindFields}
-use Rattle.calls.specs.declared.Call as callrec
-use Rattle.calls.specs.declared.ReadCall as readcall
+use Rattle.calls.specs.Read.{kindFields}
 
 -- the kind, where length and version are right
 unfoldable pub heading : Reader ℕ
@@ -100,20 +98,28 @@ clocked : (now : ℕ) (fields : Reader Call) (s : Bytes) → finished {A = Timed
 unfolding bind
 clocked now fields s = stamped now (fields s)
 
--- heading, clock and fields, in a row
-pub call-read : {s : Bytes} {k a : ℕ} {ok₁ ok₂ : Bool} {now b : ℕ} {r : readcall.ReadCall} → Stepped heading true 0 s ok₁ k a → Stepped clock ok₁ a s ok₂ now b → Read (kindFields k) now ok₂ b s r
-    → (if r .ok then some (timedOf (r .call)) else none) ≡ readCall s
-unfolding readCall timed
-call-read {s} {k} {a} {ok₁} {ok₂} {now} {b} {r} h t q =
-    let f = follows-step (λ v. bind (kindFields k) λ c. give (record { now = v; call = c })) (follows-step timed (follows-start (bind heading timed) true 0 s) h) t in
-    sym (framed-is timed s ∙ ap (finished {A = Timed}) (f .is) ∙ go ok₂ (q .is) (r .ok) refl)
-  where
-    say : (g : Bool) → r .ok ≡ g → option (if g then some (callOf (r .call)) else none) none (λ c. some (record { now = now; call = c })) ≡ (if r .ok then some (timedOf (r .call)) else none)
-    say true e = rw (e, q .time)
-    say false e = rw e
+-- a record's call: none, or that of the fields from `at` on, of kind k, at a clock reading
+pub record Opens (s : Bytes) (ok : Bool) (k now at : ℕ) : Type 0 where
+  pub is : readCall s ≡ (if ok then option (finished (kindFields k (drop at s))) none (λ c. some (record { now = now; call = c })) else none)
+  pub room : at ≤ length s
 
-    go : (ok : Bool) → finished (if ok then kindFields k (drop b s) else none) ≡ (if r .ok then some (callOf (r .call)) else none) → (g : Bool) → r .ok ≡ g
-        → finished {A = Timed} (if ok then bind (kindFields k) (λ c. give (record { now = now; call = c })) (drop b s) else none) ≡ (if r .ok then some (timedOf (r .call)) else none)
-    go true e g z = clocked now (kindFields k) (drop b s) ∙ rw e (rw z (rw z at (say g z)))
-    go false e true z = absurd (let x : _≡_ {A = ℕ} 0 1 = cc in omega arith)
-    go false e false z = rw z
+module _ {s : Bytes} {ok : Bool} {k a : ℕ} (h : Stepped heading true 0 s ok k a) where
+  pub opens-none : {j now : ℕ} → not ok ≡ true → Opens s false j now 0
+  unfolding readCall bind
+  opens-none q =
+      let e : heading s ≡ none = rw (not-true ok q) at (h .is) in
+      record { is = framed-is timed s ∙ rw e; room = omega arith }
+
+  -- heading, clock and fields, in a row
+  pub opens : {ok₂ : Bool} {now b : ℕ} → not ok ≡ false → Stepped clock true a s ok₂ now b → Opens s ok₂ k now b
+  unfolding readCall timed
+  opens {ok₂} {now} {b} q t =
+      let h′ : Stepped heading true 0 s true k a = rw (not-false ok q) at h in
+      let f = follows-step (λ v. bind (kindFields k) λ c. give (record { now = v; call = c })) (follows-step timed (follows-start (bind heading timed) true 0 s) h′) t in
+      record { is = framed-is timed s ∙ ap (finished {A = Timed}) (f .is) ∙ go ok₂; room = t .room }
+    where
+      go : (ok : Bool)
+          → finished {A = Timed} (if ok then bind (kindFields k) (λ c. give (record { now = now; call = c })) (drop b s) else none)
+          ≡ (if ok then option (finished (kindFields k (drop b s))) none (λ c. some (record { now = now; call = c })) else none)
+      go true = clocked now (kindFields k) (drop b s)
+      go false = refl

@@ -1,7 +1,7 @@
 use borrow.Author.Needs.{needs}
 use Rattle.input.specs.Frame.{heading-short, heading-length, heading-version, heading-read}
-use Rattle.input.proofs.read.read_frame.Statement.{statement}
-use Rattle.input.proofs.read.read_frame.Tie as tie
+use Rattle.input.proofs.read_frame.Statement.{statement}
+use Rattle.input.proofs.read_frame.Tie as tie
 
 returns : tie.Need-returns
 returns c = heading-short _ (search needs)
