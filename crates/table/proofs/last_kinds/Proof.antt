@@ -1,45 +1,82 @@
 -- `table::last_kinds` meets its contract.
-use mathlib.Core.Path.{refl}
-use Rattle.steps.specs.Did.{space-result}
-use Rattle.table.specs.Kind.{remove-is, close-is, path-is, release-is, wake-is, is-sixteen, why-code, state-code, ruled-did, ruled-path, ruled-puts}
+use Rattle.rules.specs.Record.{kinds}
+use Rattle.table.specs.Ask.{asked-kind, answers-kind, no-kind-answers}
+use Rattle.table.specs.Kind.{past-sixteen}
 use Rattle.table.proofs.last_kinds.Statement.{statement}
 use Rattle.table.proofs.last_kinds.Tie as tie
 
-why-of-requires : tie.Need-why-of-requires
-why-of-requires c κs = why-code (c .before .before .before .before .pre .1 .0) (c .before .if1 .taken)
+remove-call-requires : tie.Need-remove-call-requires
+unfolding kinds
+remove-call-requires c κs = asked-kind _ 11 (c .before .before .if1 .taken) (c .before .before .before .before .before .before .pre .0)
 
-remove-requires : tie.Need-remove-requires
-remove-requires c κs = (c .before .before .before .before .before .before .before .pre .0, space-result (c .before .before .before .before .before .before .before .pre .1 .1 .1) (remove-is _ _ (c .before .before .why-of .result) (c .before .before .why-of .ensures) (c .before .before .before .before .if1 .taken)))
+same-length : tie.Need-same-length
+same-length c = c .before .before .before .before .remove-call .kept .0
+
+same-length-2 : tie.Need-same-length-2
+same-length-2 c = c .before .before .before .before .remove-call .kept .1 .0
 
 returns : tie.Need-returns
-returns c = ruled-did (remove-is _ _ (c .before .before .before .before .before .before .before .why-of .result) (c .before .before .before .before .before .before .before .why-of .ensures) (c .before .before .before .before .before .before .before .before .before .if1 .taken)) (c .before .before .before .before .remove .ensures)
+unfolding kinds
+returns c = answers-kind _ 11 (c .before .before .before .before .before .before .before .if1 .taken) (c .before .before .before .before .remove-call .ensures)
 
-close-requires : tie.Need-close-requires
-close-requires c κs = (c .before .before .before .before .before .before .pre .0, space-result (c .before .before .before .before .before .before .pre .1 .1 .1) (close-is _ _ (c .before .before .if2 .taken)))
+close-call-requires : tie.Need-close-call-requires
+unfolding kinds
+close-call-requires c κs = asked-kind _ 13 (c .before .before .if2 .taken) (c .before .before .before .before .before .before .before .pre .0)
+
+same-length-3 : tie.Need-same-length-3
+same-length-3 c = c .before .before .before .before .close-call .kept .0
+
+same-length-4 : tie.Need-same-length-4
+same-length-4 c = c .before .before .before .before .close-call .kept .1 .0
 
 returns-2 : tie.Need-returns-2
-returns-2 c = ruled-did (close-is _ _ (c .before .before .before .before .before .before .before .if2 .taken)) (c .before .before .before .before .close .ensures)
+unfolding kinds
+returns-2 c = answers-kind _ 13 (c .before .before .before .before .before .before .before .if2 .taken) (c .before .before .before .before .close-call .ensures)
 
-state-of-requires : tie.Need-state-of-requires
-state-of-requires c κs = state-code (c .before .before .before .before .before .before .before .pre .1 .0) (c .if3 .taken)
+path-call-requires : tie.Need-path-call-requires
+unfolding kinds
+path-call-requires c κs = asked-kind _ 14 (c .before .before .if3 .taken) (c .before .before .before .before .before .before .before .before .pre .0)
 
-add-path-requires : tie.Need-add-path-requires
-add-path-requires c κs = (c .before .before .before .before .before .before .before .before .before .pre .0 .fit, c .before .before .before .before .before .before .before .before .before .pre .1 .0 .pair)
+same-length-5 : tie.Need-same-length-5
+same-length-5 c = c .before .before .before .before .path-call .kept .0
+
+same-length-6 : tie.Need-same-length-6
+same-length-6 c = c .before .before .before .before .path-call .kept .1 .0
 
 returns-3 : tie.Need-returns-3
-returns-3 c = ruled-path _ _ _ _ (path-is _ _ (c .before .before .before .before .state-of .ensures) (c .before .before .before .before .before .if3 .taken)) (c .before .before .add-path .ensures)
+unfolding kinds
+returns-3 c = answers-kind _ 14 (c .before .before .before .before .before .before .before .if3 .taken) (c .before .before .before .before .path-call .ensures)
 
-release-requires : tie.Need-release-requires
-release-requires c κs = (c .before .before .before .before .before .before .before .before .before .before .pre .0 .fit, (c .before .before .before .before .before .before .before .before .before .before .pre .1 .0 .pair, space-result (c .before .before .before .before .before .before .before .before .before .before .pre .1 .1 .1) (release-is _ _ (c .before .before .if4 .taken))))
+release-call-requires : tie.Need-release-call-requires
+unfolding kinds
+release-call-requires c κs = asked-kind _ 15 (c .before .before .if4 .taken) (c .before .before .before .before .before .before .before .before .before .pre .0)
+
+same-length-7 : tie.Need-same-length-7
+same-length-7 c = c .before .before .before .before .release-call .kept .0
+
+same-length-8 : tie.Need-same-length-8
+same-length-8 c = c .before .before .before .before .release-call .kept .1 .0
 
 returns-4 : tie.Need-returns-4
-returns-4 c = ruled-did (release-is _ _ (c .before .before .before .before .before .before .before .if4 .taken)) (c .before .before .before .before .release .ensures)
+unfolding kinds
+returns-4 c = answers-kind _ 15 (c .before .before .before .before .before .before .before .if4 .taken) (c .before .before .before .before .release-call .ensures)
 
-wake-requires : tie.Need-wake-requires
-wake-requires c κs = (c .before .before .before .before .before .before .before .before .before .before .pre .0 .fit, space-result (c .before .before .before .before .before .before .before .before .before .before .pre .1 .1 .1) (wake-is _ _ (is-sixteen (c .before .before .before .before .before .before .before .before .before .before .pre .1 .1 .0 .0) (c .before .before .before .before .before .before .before .before .before .before .pre .1 .1 .0 .1) (c .before .before .before .before .before .before .before .before .before .before .pre .1 .0 .known) (c .before .before .before .before .before .before .before .if1 .left) (c .before .before .before .before .before .before .if2 .left) (c .before .before .before .if3 .left) (c .before .before .if4 .left))))
+wake-call-requires : tie.Need-wake-call-requires
+unfolding kinds
+wake-call-requires c κs = asked-kind _ 16 (c .before .before .if5 .taken) (c .before .before .before .before .before .before .before .before .before .before .pre .0)
+
+same-length-9 : tie.Need-same-length-9
+same-length-9 c = c .before .before .before .before .wake-call .kept .0
+
+same-length-10 : tie.Need-same-length-10
+same-length-10 c = c .before .before .before .before .wake-call .kept .1 .0
 
 returns-5 : tie.Need-returns-5
-returns-5 c = ruled-puts (c .before .before .before .before .before .before .before .before .before .before .before .before .before .pre .0 .fit) (wake-is _ _ (is-sixteen (c .before .before .before .before .before .before .before .before .before .before .before .before .before .pre .1 .1 .0 .0) (c .before .before .before .before .before .before .before .before .before .before .before .before .before .pre .1 .1 .0 .1) (c .before .before .before .before .before .before .before .before .before .before .before .before .before .pre .1 .0 .known) (c .before .before .before .before .before .before .before .before .before .before .if1 .left) (c .before .before .before .before .before .before .before .before .before .if2 .left) (c .before .before .before .before .before .before .if3 .left) (c .before .before .before .before .before .if4 .left))) (c .before .before .wake .ensures)
+unfolding kinds
+returns-5 c = answers-kind _ 16 (c .before .before .before .before .before .before .before .if5 .taken) (c .before .before .before .before .wake-call .ensures)
+
+returns-6 : tie.Need-returns-6
+returns-6 c = no-kind-answers _ (past-sixteen _ (c .before .before .before .before .before .before .before .before .pre .1 .0) (c .before .before .before .before .if1 .left) (c .before .before .before .before .before .before .before .before .pre .1 .1) (c .before .before .before .if2 .left) (c .before .before .if3 .left) (c .before .if4 .left) (c .if5 .left)) (c .before .before .before .before .before .before .before .before .pre .0)
 
 pub last-kinds-spec : {M : Type 1} → statement M
-last-kinds-spec = tie.close (tie.spec why-of-requires remove-requires (λ c. c .before .before .before .before .remove .kept .0) (λ c. c .before .before .before .before .remove .kept .1 .0) returns close-requires (λ c. c .before .before .before .before .close .kept .0) (λ c. c .before .before .before .before .close .kept .1 .0) returns-2 state-of-requires add-path-requires (λ c. c .before .before .add-path .kept .0) returns-3 release-requires (λ c. c .before .before .before .before .release .kept .0) (λ c. c .before .before .before .before .release .kept .1 .0) returns-4 wake-requires (λ c. refl) (λ c. c .before .before .wake .kept .1 .0) returns-5)
+last-kinds-spec = tie.close (tie.spec remove-call-requires same-length same-length-2 returns close-call-requires same-length-3 same-length-4 returns-2 path-call-requires same-length-5 same-length-6 returns-3 release-call-requires same-length-7 same-length-8 returns-4 wake-call-requires same-length-9 same-length-10 returns-5 returns-6)

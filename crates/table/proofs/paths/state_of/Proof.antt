@@ -1,8 +1,8 @@
 -- `table::state_of` meets its contract.
 use Rattle.table.specs.Kind.{state-last}
 use borrow.Author.Needs.{needs}
-use Rattle.table.proofs.state_of.Statement.{statement}
-use Rattle.table.proofs.state_of.Tie as tie
+use Rattle.table.proofs.paths.state_of.Statement.{statement}
+use Rattle.table.proofs.paths.state_of.Tie as tie
 
 returns-3 : tie.Need-returns-3
 returns-3 c = state-last _ (c .before .before .pre) (c .before .if1 .left) (c .if2 .left)

@@ -1,0 +1,28 @@
+// The calls of a msg1: arrived, msg1, replacement.
+use steps::Answer;
+ghost use Rattle.rules.specs.Record.{arrivedFields, msg1Fields, replacementFields};
+ghost use Rattle.table.specs.Ask.{Asked, Answers};
+
+// 3: a msg1 came, and is not read yet.
+pub fn arrived_call(t: &mut [u8], out: &mut [u8], s: &[u8], at: usize, clock: u64) -> Answer
+    requires { ⌜ Asked arrivedFields clock at (now s) (now t) (now out) ⌝ }
+    ensures { λ r. ⌜ Answers arrivedFields clock at (now (s .entry)) (now (t .entry)) (now (out .entry)) (now (t .exit)) (now (out .exit)) (r .number) (r .len) ⌝ }
+{
+    Answer { number: 3, len: 0 }
+}
+
+// 4: a msg1 was read and verified.
+pub fn msg1_call(t: &mut [u8], out: &mut [u8], s: &[u8], at: usize, clock: u64) -> Answer
+    requires { ⌜ Asked msg1Fields clock at (now s) (now t) (now out) ⌝ }
+    ensures { λ r. ⌜ Answers msg1Fields clock at (now (s .entry)) (now (t .entry)) (now (out .entry)) (now (t .exit)) (now (out .exit)) (r .number) (r .len) ⌝ }
+{
+    Answer { number: 3, len: 0 }
+}
+
+// 5: a msg1 that is to replace a session.
+pub fn replacement_call(t: &mut [u8], out: &mut [u8], s: &[u8], at: usize, clock: u64) -> Answer
+    requires { ⌜ Asked replacementFields clock at (now s) (now t) (now out) ⌝ }
+    ensures { λ r. ⌜ Answers replacementFields clock at (now (s .entry)) (now (t .entry)) (now (out .entry)) (now (t .exit)) (now (out .exit)) (r .number) (r .len) ⌝ }
+{
+    Answer { number: 3, len: 0 }
+}

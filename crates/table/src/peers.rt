@@ -1,0 +1,55 @@
+// The calls of a peer: restarted, heard, remove.
+use codes::why_of;
+use ending::peer::remove;
+use hearing::peer::heard;
+use hearing::peer::restarted;
+use shapes::heard_fields;
+use shapes::remove_fields;
+use shapes::restarted_fields;
+use steps::Answer;
+ghost use Rattle.rules.specs.Record.{restartedFields, heardFields, removeFields};
+ghost use Rattle.table.specs.Ask.{Asked, Answers};
+
+// 9: a held peer has another epoch.
+pub fn restarted_call(t: &mut [u8], out: &mut [u8], s: &[u8], at: usize, clock: u64) -> Answer
+    requires { ⌜ Asked restartedFields clock at (now s) (now t) (now out) ⌝ }
+    ensures { λ r. ⌜ Answers restartedFields clock at (now (s .entry)) (now (t .entry)) (now (out .entry)) (now (t .exit)) (now (out .exit)) (r .number) (r .len) ⌝ }
+{
+    let r = restarted_fields(s, at);
+    if !r.ok {
+        return Answer { number: 3, len: 0 };
+    }
+    let peer = r.peer;
+    let n = restarted(t, out, 0, peer, r.epoch);
+    Answer { number: 0, len: n }
+}
+
+// 10: a frame of a peer came.
+pub fn heard_call(t: &mut [u8], out: &mut [u8], s: &[u8], at: usize, clock: u64) -> Answer
+    requires { ⌜ Asked heardFields clock at (now s) (now t) (now out) ⌝ }
+    ensures { λ r. ⌜ Answers heardFields clock at (now (s .entry)) (now (t .entry)) (now (out .entry)) (now (t .exit)) (now (out .exit)) (r .number) (r .len) ⌝ }
+{
+    let r = heard_fields(s, at);
+    if !r.ok {
+        return Answer { number: 3, len: 0 };
+    }
+    let peer = r.peer;
+    let pair = r.pair;
+    let n = heard(t, out, 0, peer, pair, clock);
+    Answer { number: 0, len: n }
+}
+
+// 11: a peer goes.
+pub fn remove_call(t: &mut [u8], out: &mut [u8], s: &[u8], at: usize, clock: u64) -> Answer
+    requires { ⌜ Asked removeFields clock at (now s) (now t) (now out) ⌝ }
+    ensures { λ r. ⌜ Answers removeFields clock at (now (s .entry)) (now (t .entry)) (now (out .entry)) (now (t .exit)) (now (out .exit)) (r .number) (r .len) ⌝ }
+{
+    let r = remove_fields(s, at);
+    if !r.ok {
+        return Answer { number: 3, len: 0 };
+    }
+    let peer = r.peer;
+    let why = why_of(r.why);
+    let n = remove(t, out, 0, peer, why, clock);
+    Answer { number: 0, len: n }
+}
