@@ -1,4 +1,4 @@
-// The search for a stored msg2: over the links in ascending order and the addresses of each, left at the first leg that yields one.
+// The search for a stored msg2: over the links in ascending order, and the addresses of each whose leg yields one, left at the first that counts.
 use crate::map::find_leg;
 use crate::map::leg_count;
 use leg_entry::at::stored_at;
