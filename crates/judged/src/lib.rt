@@ -108,7 +108,14 @@ fn replayed(s: &[u8], i: usize, digest: Digest, clock: u64, c: Params) -> Verdic
 }
 
 // The same, asked only of a peering that is unheard.
-fn unheard_replayed(s: &[u8], i: usize, l: Liveness, digest: Digest, clock: u64, c: Params) -> Verdict
+fn unheard_replayed(
+    s: &[u8],
+    i: usize,
+    l: Liveness,
+    digest: Digest,
+    clock: u64,
+    c: Params,
+) -> Verdict
     requires { ⌜ FitGates (now s) ⌝ }
     requires { ⌜ i < gateCount (now s) ⌝ }
     ensures { λ r. ⌜ refusedBy r ≡ (if l .heard then none else rule.replayed (viewParams c) clock (digest .0) (memoryAt (now (s .entry)) i)) ⌝ }
