@@ -22,7 +22,7 @@ ghost use Rattle.memories.specs.View.{sourceOf, refusedBy, heldOf, asking};
 ghost use Rattle.memory_entry.specs.View.{FitGates, gateCount, memoryAt};
 
 // Whether the silences of the i-th memory refuse a msg1 at an epoch.
-pub fn silencing(s: &[u8], i: usize, epoch: u64, clock: u64) -> bool
+fn silencing(s: &[u8], i: usize, epoch: u64, clock: u64) -> bool
     requires { ⌜ FitGates (now s) ⌝ }
     requires { ⌜ i < gateCount (now s) ⌝ }
     ensures { λ r. ⌜ r ≡ rule.silencing (some epoch) clock (memoryAt (now (s .entry)) i) ⌝ }
@@ -170,7 +170,7 @@ fn dampened(s: &[u8], i: usize, clock: u64, c: Params) -> Verdict
 }
 
 // The replays, the floors and the dampener, in this order.
-pub fn judge(s: &[u8], i: usize, l: Liveness, digest: Digest, clock: u64, c: Params) -> Verdict
+fn judge(s: &[u8], i: usize, l: Liveness, digest: Digest, clock: u64, c: Params) -> Verdict
     requires { ⌜ FitGates (now s) ⌝ }
     requires { ⌜ i < gateCount (now s) ⌝ }
     ensures { λ r. ⌜ refusedBy r ≡ rule.judge (viewParams c) clock (some (digest .0)) (heldOf l) (memoryAt (now (s .entry)) i) ⌝ }
