@@ -4,6 +4,7 @@ use crate::map::memory_of;
 use crate::map::replace_memory;
 use crate::map::store_memory;
 use judged::gate;
+use judged::gate_blank;
 use memories::Liveness;
 use memories::Source;
 use memories::Verdict;
@@ -149,6 +150,8 @@ pub fn judged(
     requires { ⌜ FitGates (now s) ⌝ }
     ensures { λ r. ⌜ refusedBy r ≡ rule.gate (viewParams c) clock (asking source l digest epoch) (rule.memory (peer .0) (viewGates (now (s .entry)))) ⌝ }
 {
-    let m = memory_of(s, peer);
-    gate(m, source, l, digest, epoch, clock, c)
+    match find_memory(s, peer) {
+        Found::At(i) => gate(s, i, source, l, digest, epoch, clock, c),
+        Found::Nothing => gate_blank(source, l, clock, c),
+    }
 }

@@ -1,51 +1,72 @@
--- What the tests of the code say of the rules that judge.
-use mathlib.Core.Path.{_≡_, refl, ap}
-use mathlib.Core.Bool.{Bool, true, false, not}
-use mathlib.Core.Option.{none, some}
-use mathlib.Core.List.{List}
-use Prim.Native.Nat.{ℕ, _≤_, _<_}
-use borrow.Author.Tests.{lt-ltb, le-ltb, not-true, not-false}
-use lib.Dec.{eqb, leb}
-use lib.ListN.{length}
-use Rattle.rules.specs.Base.{if_then_else_, Bytes}
+-- The cells of the i-th memory that decide, in the rules that judge; and the judgement by a blank memory.
+use mathlib.Core.Path.{_≡_, refl, sym, ap, _∙_}
+use mathlib.Core.Bool.{Bool, true, false, not, _&&_, _||_}
+use mathlib.Core.Option.{Option, none, some}
+use Prim.Native.Nat.{ℕ, _+_, _*_, _<_}
+use native.Mathlib.Nat.{add-zero}
+use lib.Dec.{eqb, leb, ltb}
+use lib.ListN.{take, drop}
+use Rattle.rules.specs.Base.{if_then_else_, option, orElse, Bytes}
 use Rattle.rules.specs.Time.{Params}
-use Rattle.rules.specs.Data as rule
-use Rattle.rules.specs.Gates.{silencing, recentReplays, seenIn, replayed}
-use Rattle.memories.specs.declared.Memory.{Memory}
-use Rattle.memories.specs.View.{viewMemory}
+use Rattle.rules.specs.Data.{Silence, Held, Source, Refusal, Dampened, ReplayFull}
+use Rattle.rules.specs.Gates.{blank, differ, recent, silencing, replayed, young, dampened, judge, asksSilence, gated, gate}
+use Rattle.laws.specs.Cell.{num, flagOf, optionNum}
+use Rattle.memory_entry.specs.View.{silenceFrom, silenceOf, FitGates, gateCount, memoryAt}
+use Rattle.memory_entry.specs.Entry.{memory-here, silence-cuts}
 
--- ---- silencing
-module _ (m : Memory) (e now : ℕ) where
-  pub silencing-quiet : not (m .silent) ≡ true → false ≡ silencing (some e) now (viewMemory m)
-  unfolding silencing
-  silencing-quiet p = rw (not-true (m .silent) p)
+-- ---- silences
+abbrev refuses : ℕ → ℕ → Silence → Bool
+refuses e now x = option (x .until) false (λ u. ltb now u) && not (differ (x .epoch) (some e))
 
-  module _ (p : not (m .silent) ≡ false) where
-    pub silencing-lifted : not (m .silence .refusing) ≡ true → false ≡ silencing (some e) now (viewMemory m)
-    unfolding silencing
-    silencing-lifted q = rw (not-false (m .silent) p, not-true (m .silence .refusing) q)
+refuses-if : (e now : ℕ) (b : Bool) (x : Silence) → option (if b then some x else none) false (refuses e now) ≡ b && refuses e now x
+refuses-if e now true x = refl
+refuses-if e now false x = refl
 
-    module _ (q : not (m .silence .refusing) ≡ false) where
-      pub silencing-over : m .silence .until ≤ now → false ≡ silencing (some e) now (viewMemory m)
-      unfolding silencing
-      silencing-over h = rw (not-false (m .silent) p, not-false (m .silence .refusing) q, le-ltb now (m .silence .until) h)
+-- refusing until u, at the epoch n where it is known
+refuses-by : (e now u n : ℕ) (refusing known : Bool)
+    → option (if refusing then some u else none) false (λ u. ltb now u) && not (differ (if known then some n else none) (some e)) ≡ refusing && (ltb now u && (not known || eqb n e))
+refuses-by e now u n false known = refl
+refuses-by e now u n true false = refl
+refuses-by e now u n true true = ap (λ (b : Bool). ltb now u && b) (go (eqb n e))
+  where
+    go : (b : Bool) → not (not b) ≡ b
+    go true = refl
+    go false = refl
 
-      pub silencing-any : now < m .silence .until → not (m .silence .known) ≡ true → true ≡ silencing (some e) now (viewMemory m)
-      unfolding silencing
-      silencing-any h k = rw (not-false (m .silent) p, not-false (m .silence .refusing) q, lt-ltb now (m .silence .until) h, not-true (m .silence .known) k)
+module _ (s : Bytes) (i : ℕ) (f : FitGates s) (h : i < gateCount s) where
+  pub silencing-is : (e now : ℕ) → silencing (some e) now (memoryAt s i)
+      ≡ flagOf (take 1 (drop (i * 634 + 25) s)) && (flagOf (take 1 (drop (i * 634 + 26 + 21) s)) && (ltb now (num (take 8 (drop (i * 634 + 26 + 22) s))) && (not (flagOf (take 1 (drop (i * 634 + 26) s))) || eqb (num (take 8 (drop (i * 634 + 26 + 1) s))) e)))
+  unfolding silencing silenceOf
+  silencing-is e now =
+      let z : i * 634 + 26 + 0 ≡ i * 634 + 26 = add-zero (i * 634 + 26) in
+      ap (silencing (some e) now) (sym (memory-here s i f h))
+      ∙ refuses-if e now (flagOf (take 1 (drop (i * 634 + 25) s))) (silenceOf (take 287 (drop (i * 634 + 26) s)))
+      ∙ ap (λ (x : Silence). flagOf (take 1 (drop (i * 634 + 25) s)) && refuses e now x) (ap silenceFrom (silence-cuts s (i * 634 + 26)))
+      ∙ rw (z, refuses-by e now (num (take 8 (drop (i * 634 + 26 + 22) s))) (num (take 8 (drop (i * 634 + 26 + 1) s))) (flagOf (take 1 (drop (i * 634 + 26 + 21) s))) (flagOf (take 1 (drop (i * 634 + 26) s))))
 
-      pub silencing-epoch : now < m .silence .until → not (m .silence .known) ≡ false → eqb (m .silence .epoch) e ≡ silencing (some e) now (viewMemory m)
-      unfolding silencing
-      silencing-epoch h k =
-          rw (not-false (m .silent) p, not-false (m .silence .refusing) q, lt-ltb now (m .silence .until) h, not-false (m .silence .known) k) (go (eqb (m .silence .epoch) e))
-        where
-          go : (b : Bool) → b ≡ not (not b)
-          go true = refl
-          go false = refl
+  -- ---- the stamp
+  pub dampened-is : (c : Params) (now : ℕ) → dampened c now (memoryAt s i)
+      ≡ (if option (optionNum (take 1 (drop (i * 634 + 16) s)) (take 8 (drop (i * 634 + 17) s))) false (λ x. recent c now x) then some Dampened else none)
+  unfolding dampened
+  dampened-is c now = ap (dampened c now) (sym (memory-here s i f h))
 
--- ---- replays, once those younger than the interval are found
-pub replayed-of : (c : Params) (now : ℕ) (e : Bytes) (m : rule.Memory) (live : List rule.Replay) → live ≡ recentReplays c now (m .replays)
-    → (if seenIn e live then some rule.Refusal.Replayed else (if leb (c .replays) (length live) then some rule.Refusal.ReplayFull else none)) ≡ replayed c now e m
-unfolding replayed
-replayed-of c now e m live p =
-    ap (λ (s : List rule.Replay). if seenIn e s then some rule.Refusal.Replayed else (if leb (c .replays) (length s) then some rule.Refusal.ReplayFull else none)) p
+-- ---- a blank memory: no silence, no replay, no stamp
+pub blank-gate : (c : Params) (now : ℕ) (x : Source) (o : Option Held) (d : Bytes) (e : ℕ) (p : Bytes)
+    → gate c now (record { source = x; held = o; ephemeral = some d; epoch = some e }) (blank p)
+    ≡ option o none (λ h. if gated x then orElse (if h .heard then none else (if leb (c .replays) 0 then some ReplayFull else none)) (young c now h) else none)
+unfolding gate silencing judge replayed dampened
+blank-gate c now x o d e p = rw (quiet (asksSilence x)) (go o)
+  where
+    quiet : (b : Bool) → b && false ≡ false
+    quiet true = refl
+    quiet false = refl
+
+    last : (r : Option Refusal) → orElse r none ≡ r
+    last none = refl
+    last (some r) = refl
+
+    go : (o : Option Held)
+        → option o none (λ h. if gated x then orElse (if h .heard then none else (if leb (c .replays) 0 then some ReplayFull else none)) (orElse (young c now h) none) else none)
+        ≡ option o none (λ h. if gated x then orElse (if h .heard then none else (if leb (c .replays) 0 then some ReplayFull else none)) (young c now h) else none)
+    go none = refl
+    go (some h) = rw (last (young c now h))

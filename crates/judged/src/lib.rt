@@ -1,50 +1,58 @@
-// The judgement of a msg1.
+// The judgement of a msg1, from what is remembered of its peer where that stands.
 use memories::Liveness;
-use memories::Memory;
 use memories::Refusal;
 use memories::Source;
 use memories::Verdict;
+use memory::read::get_8;
+use memory_entry::cell::get_flag;
 use node_addr::Digest;
+use node_addr::place::digest_here;
 use params::Params;
 use params::time::younger;
-use seen::recent_replays;
-use seen::seen_in;
+use regions::count;
 ghost use mathlib.Core.Path.{_≡_};
 ghost use mathlib.Core.Bool.{_&&_};
 ghost use mathlib.Core.Option.{none, some};
-ghost use Rattle.rules.specs.Base.{if_then_else_, option, orElse};
+ghost use Prim.Native.Nat.{ℕ, _<_};
+ghost use Rattle.rules.specs.Base.{if_then_else_, option, orElse, Bytes};
 ghost use Rattle.rules.specs.Gates as rule;
+ghost use Rattle.node_addr.specs.declared.Digest as digests;
 ghost use Rattle.params.specs.View.{viewParams};
-ghost use Rattle.memories.specs.View.{viewMemory, FitMemory, sourceOf, refusedBy, heldOf, asking};
+ghost use Rattle.memories.specs.View.{sourceOf, refusedBy, heldOf, asking};
+ghost use Rattle.memory_entry.specs.View.{FitGates, gateCount, memoryAt};
 
-// Whether the silences refuse a msg1 at an epoch.
-pub fn silencing(m: Memory, epoch: u64, clock: u64) -> bool
-    ensures { λ r. ⌜ r ≡ rule.silencing (some epoch) clock (viewMemory m) ⌝ }
+// Whether the silences of the i-th memory refuse a msg1 at an epoch.
+fn silencing(s: &[u8], i: usize, epoch: u64, clock: u64) -> bool
+    requires { ⌜ FitGates (now s) ⌝ }
+    requires { ⌜ i < gateCount (now s) ⌝ }
+    ensures { λ r. ⌜ r ≡ rule.silencing (some epoch) clock (memoryAt (now (s .entry)) i) ⌝ }
 {
-    if !m.silent {
+    if !get_flag(s, i * 634 + 25) {
         return false;
     }
-    let s = m.silence;
-    if !s.refusing {
+    let a = i * 634 + 26;
+    if !get_flag(s, a + 21) {
         return false;
     }
-    if s.until <= clock {
+    if get_8(s, a + 22) <= clock {
         return false;
     }
-    if !s.known {
+    if !get_flag(s, a) {
         return true;
     }
-    s.epoch == epoch
+    get_8(s, a + 1) == epoch
 }
 
-// Whether the silences refuse what asks.
-fn silenced_for(m: Memory, source: Source, epoch: u64, clock: u64) -> bool
-    ensures { λ r. ⌜ r ≡ rule.asksSilence (sourceOf source) && rule.silencing (some epoch) clock (viewMemory m) ⌝ }
+// Whether they refuse what asks.
+fn silenced_for(s: &[u8], i: usize, source: Source, epoch: u64, clock: u64) -> bool
+    requires { ⌜ FitGates (now s) ⌝ }
+    requires { ⌜ i < gateCount (now s) ⌝ }
+    ensures { λ r. ⌜ r ≡ rule.asksSilence (sourceOf source) && rule.silencing (some epoch) clock (memoryAt (now (s .entry)) i) ⌝ }
 {
     match source {
-        Source::NotHeld => silencing(m, epoch, clock),
+        Source::NotHeld => silencing(s, i, epoch, clock),
         Source::Restart => false,
-        Source::Replacement => silencing(m, epoch, clock),
+        Source::Replacement => silencing(s, i, epoch, clock),
         Source::OwnMsg2 => false,
         Source::RekeyMsg2 => false,
     }
@@ -73,32 +81,49 @@ fn first_of(a: Verdict, b: Verdict) -> Verdict
     }
 }
 
-// Over the replays younger than the interval: the digest is among them, or there are as many as may be.
-fn replayed(m: Memory, digest: Digest, clock: u64, c: Params) -> Verdict
-    requires { ⌜ FitMemory m ⌝ }
-    ensures { λ r. ⌜ refusedBy r ≡ rule.replayed (viewParams c) clock (digest .0) (viewMemory m) ⌝ }
+// Over the replays of the i-th memory younger than the interval: the digest is among them, or there are as many as may be.
+fn replayed(s: &[u8], i: usize, digest: Digest, clock: u64, c: Params) -> Verdict
+    requires { ⌜ FitGates (now s) ⌝ }
+    requires { ⌜ i < gateCount (now s) ⌝ }
+    ensures { λ r. ⌜ refusedBy r ≡ rule.replayed (viewParams c) clock (digest .0) (memoryAt (now (s .entry)) i) ⌝ }
 {
-    let held = m.replays;
-    let live = recent_replays(held, clock, c.interval);
-    if seen_in(live, digest) {
-        return Verdict::Refuse(Refusal::Replayed);
+    let at = i * 634 + 313;
+    let n = count(s, at + 320);
+    let mut live: usize = 0;
+    let mut j = 0;
+    while j < n {
+        let e = at + j * 40;
+        if younger(c.interval, clock, get_8(s, e + 32)) {
+            if digest_here(s, e, digest) {
+                return Verdict::Refuse(Refusal::Replayed);
+            }
+            live += 1;
+        }
+        j += 1;
     }
-    let n = live.len;
-    if c.replays as usize <= n {
+    if c.replays as usize <= live {
         return Verdict::Refuse(Refusal::ReplayFull);
     }
     Verdict::Pass
 }
 
 // The same, asked only of a peering that is unheard.
-fn unheard_replayed(m: Memory, l: Liveness, digest: Digest, clock: u64, c: Params) -> Verdict
-    requires { ⌜ FitMemory m ⌝ }
-    ensures { λ r. ⌜ refusedBy r ≡ (if l .heard then none else rule.replayed (viewParams c) clock (digest .0) (viewMemory m)) ⌝ }
+fn unheard_replayed(
+    s: &[u8],
+    i: usize,
+    l: Liveness,
+    digest: Digest,
+    clock: u64,
+    c: Params,
+) -> Verdict
+    requires { ⌜ FitGates (now s) ⌝ }
+    requires { ⌜ i < gateCount (now s) ⌝ }
+    ensures { λ r. ⌜ refusedBy r ≡ (if l .heard then none else rule.replayed (viewParams c) clock (digest .0) (memoryAt (now (s .entry)) i)) ⌝ }
 {
     if l.heard {
         return Verdict::Pass;
     }
-    replayed(m, digest, clock, c)
+    replayed(s, i, digest, clock, c)
 }
 
 // When the peering was last alive: its last frame, else its installation.
@@ -129,33 +154,38 @@ fn young(l: Liveness, clock: u64, c: Params) -> Verdict
 }
 
 // A heard peering was given up within the interval.
-fn dampened(m: Memory, clock: u64, c: Params) -> Verdict
-    ensures { λ r. ⌜ refusedBy r ≡ rule.dampened (viewParams c) clock (viewMemory m) ⌝ }
+fn dampened(s: &[u8], i: usize, clock: u64, c: Params) -> Verdict
+    requires { ⌜ FitGates (now s) ⌝ }
+    requires { ⌜ i < gateCount (now s) ⌝ }
+    ensures { λ r. ⌜ refusedBy r ≡ rule.dampened (viewParams c) clock (memoryAt (now (s .entry)) i) ⌝ }
 {
-    if !m.stamped {
+    let a = i * 634;
+    if !get_flag(s, a + 16) {
         return Verdict::Pass;
     }
-    if younger(c.interval, clock, m.stamp) {
+    if younger(c.interval, clock, get_8(s, a + 17)) {
         return Verdict::Refuse(Refusal::Dampened);
     }
     Verdict::Pass
 }
 
 // The replays, the floors and the dampener, in this order.
-pub fn judge(m: Memory, l: Liveness, digest: Digest, clock: u64, c: Params) -> Verdict
-    requires { ⌜ FitMemory m ⌝ }
-    ensures { λ r. ⌜ refusedBy r ≡ rule.judge (viewParams c) clock (some (digest .0)) (heldOf l) (viewMemory m) ⌝ }
+fn judge(s: &[u8], i: usize, l: Liveness, digest: Digest, clock: u64, c: Params) -> Verdict
+    requires { ⌜ FitGates (now s) ⌝ }
+    requires { ⌜ i < gateCount (now s) ⌝ }
+    ensures { λ r. ⌜ refusedBy r ≡ rule.judge (viewParams c) clock (some (digest .0)) (heldOf l) (memoryAt (now (s .entry)) i) ⌝ }
 {
-    let a = unheard_replayed(m, l, digest, clock, c);
+    let a = unheard_replayed(s, i, l, digest, clock, c);
     let b = young(l, clock, c);
-    let d = dampened(m, clock, c);
+    let d = dampened(s, i, clock, c);
     let e = first_of(b, d);
     first_of(a, e)
 }
 
-// The judgement of what asks.
+// The judgement of what asks, by the i-th memory.
 pub fn gate(
-    m: Memory,
+    s: &[u8],
+    i: usize,
     source: Source,
     l: Liveness,
     digest: Digest,
@@ -163,10 +193,11 @@ pub fn gate(
     clock: u64,
     c: Params,
 ) -> Verdict
-    requires { ⌜ FitMemory m ⌝ }
-    ensures { λ r. ⌜ refusedBy r ≡ rule.gate (viewParams c) clock (asking source l digest epoch) (viewMemory m) ⌝ }
+    requires { ⌜ FitGates (now s) ⌝ }
+    requires { ⌜ i < gateCount (now s) ⌝ }
+    ensures { λ r. ⌜ refusedBy r ≡ rule.gate (viewParams c) clock (asking source l digest epoch) (memoryAt (now (s .entry)) i) ⌝ }
 {
-    if silenced_for(m, source, epoch, clock) {
+    if silenced_for(s, i, source, epoch, clock) {
         return Verdict::Refuse(Refusal::Silent);
     }
     if !l.held {
@@ -175,5 +206,23 @@ pub fn gate(
     if !gated(source) {
         return Verdict::Pass;
     }
-    judge(m, l, digest, clock, c)
+    judge(s, i, l, digest, clock, c)
+}
+
+// The judgement of what asks where nothing is remembered of the peer, whatever the digest and the epoch.
+pub fn gate_blank(source: Source, l: Liveness, clock: u64, c: Params) -> Verdict
+    ensures { λ r. ⌜ ((p : Bytes) (d : digests.Digest) (e : ℕ) → refusedBy r ≡ rule.gate (viewParams c) clock (asking source l d e) (rule.blank p)) ⌝ }
+{
+    if !l.held {
+        return Verdict::Pass;
+    }
+    if !gated(source) {
+        return Verdict::Pass;
+    }
+    if !l.heard {
+        if c.replays == 0 {
+            return Verdict::Refuse(Refusal::ReplayFull);
+        }
+    }
+    young(l, clock, c)
 }

@@ -250,7 +250,7 @@ unfolding more
 clear o e n q = n ∙ ap num (o .blank (sym e ∙ q))
 
 module _ (s : Bytes) (at : ℕ) where
-  silence-cuts : cuts 0 0 silenceWs (take 287 (drop at s)) ≡ cuts at 0 silenceWs s
+  pub silence-cuts : cuts 0 0 silenceWs (take 287 (drop at s)) ≡ cuts at 0 silenceWs s
   unfolding sum
   silence-cuts = cuts-part 287 s at 0 silenceWs (lit≤ tt)
 

@@ -84,7 +84,7 @@ fn without_oldest(r: Replays) -> Replays
 }
 
 // Whether a digest is among them.
-pub fn seen_in(r: Replays, digest: Digest) -> bool
+fn seen_in(r: Replays, digest: Digest) -> bool
     requires { ⌜ FitReplays r ⌝ }
     ensures { λ x. ⌜ x ≡ seenIn (digest .0) (viewReplays r) ⌝ }
 {

@@ -13,7 +13,7 @@ returns-2 : tie.Need-returns-2
 unfolding gate
 returns-2 c =
     let d = c .before .before in
-    rw (sym (d .before .silenced-for .ensures) ∙ d .if1 .left, not-true (d .before .before .args .l .held) (c .if2 .taken))
+    rw (sym (d .before .silenced-for .ensures) ∙ d .if1 .left, not-true (d .before .before .before .args .l .held) (c .if2 .taken))
 
 returns-3 : tie.Need-returns-3
 unfolding gate
@@ -22,7 +22,7 @@ returns-3 c =
     let d = e .before .before in
     rw (
       sym (d .before .silenced-for .ensures) ∙ d .if1 .left,
-      not-false (d .before .before .args .l .held) (e .if2 .left),
+      not-false (d .before .before .before .args .l .held) (e .if2 .left),
       sym (c .before .gated .ensures) ∙ not-true (c .before .gated .result) (c .if3 .taken),
     )
 
@@ -34,7 +34,7 @@ returns-4 c =
     let d = e .before .before in
     rw (
       sym (d .before .silenced-for .ensures) ∙ d .if1 .left,
-      not-false (d .before .before .args .l .held) (e .if2 .left),
+      not-false (d .before .before .before .args .l .held) (e .if2 .left),
       sym (g .gated .ensures) ∙ not-false (g .gated .result) (c .before .if3 .left),
     ) (c .judge .ensures)
 
