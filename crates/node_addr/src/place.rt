@@ -5,6 +5,7 @@ use crate::Message;
 use crate::NodeAddr;
 use crate::Pair;
 use crate::TransportId;
+use crate::run::same_16;
 use crate::run::same_32;
 use crate::run::same_48;
 use memory::compare::before_run;
@@ -54,7 +55,7 @@ pub fn node_here(s: &[u8], at: usize, n: NodeAddr) -> bool
     ensures { λ r. ⌜ r ≡ same (n .0) (take 16 (drop at (now (s .entry)))) ⌝ }
 {
     let b = n.0;
-    same_run(&b, 0, s, at, 16)
+    same_16(&b, 0, s, at)
 }
 
 // Whether a node address comes before the one at a place.
