@@ -16,6 +16,7 @@ use Rattle.rules.specs.Base.{same}
 use Rattle.rules.specs.Field.{more, digits}
 use Rattle.laws.specs.Beside.{same-refl, same-yes, same-no}
 use Rattle.laws.specs.Words.{Octets, octets-run, same-append, run-rest}
+use Rattle.laws.specs.Splice.{Wrote}
 
 -- the number that the bytes spell, the least significant first
 unfoldable pub little : List ℕ → ℕ
@@ -94,6 +95,10 @@ le-eight s at a b l p q =
     rw (p, q) (sym (rw (take-add 4 4 (drop at s), drop-drop 4 at s) (little-append (take 4 (drop at s)) (take 4 (drop (at + 4) s)) ∙ rw h)))
 
 -- ---- bytes turned round
+pub turn-two : (v a b : ℕ) → a ≡ v % 256 → b ≡ v / 256 % 256 → a * 256 + b ≡ more 0 (lows 2 v)
+unfolding more lows
+turn-two v a b p q = rw (p, q) (omega arith)
+
 pub turn-four : (v a b c d : ℕ) → a ≡ v % 256 → b ≡ v / 256 % 256 → c ≡ v / 256 / 256 % 256 → d ≡ v / 256 / 256 / 256 % 256 → ((a * 256 + b) * 256 + c) * 256 + d ≡ more 0 (lows 4 v)
 unfolding more lows
 turn-four v a b c d p q r s = rw (p, q, r, s) (omega arith)
@@ -184,3 +189,20 @@ module _ (k n : ℕ) (s : List ℕ) (at : ℕ) (t : List ℕ) (from : ℕ) (h : 
 
   pub first-on : little (take k (drop at s)) ≡ little (take k (drop from t)) → Fronts n s at t from k
   first-on e = rw (zero-add k) at (word-on (fronts-start {s = s} {t = t} h g) k f f′ (omega arith) (rw (add-zero at, add-zero from) e))
+
+-- ---- bytes of a word written one after the other, and a number that was turned round before
+module _ {xs : List ℕ} {at : ℕ} {ys : List ℕ} {r : ℕ} where
+  pub stored-two : (w a b : ℕ) → a ≡ w % 256 → b ≡ w / 256 % 256 → Wrote xs at 2 (a ∷ b ∷ []) ys r → Wrote xs at 2 (lows 2 w) ys r
+  unfolding lows
+  stored-two w a b p q h = rw (p, q) at h
+
+  pub stored-four : (w a b c d : ℕ) → a ≡ w % 256 → b ≡ w / 256 % 256 → c ≡ w / 256 / 256 % 256 → d ≡ w / 256 / 256 / 256 % 256 → Wrote xs at 4 (a ∷ b ∷ c ∷ d ∷ []) ys r → Wrote xs at 4 (lows 4 w) ys r
+  unfolding lows
+  stored-four w a b c d p q s t h = rw (p, q, s, t) at h
+
+  pub stored-eight : (w : ℕ) → Wrote xs at 8 (lows 4 w ++ lows 4 (w / 4294967296)) ys r → Wrote xs at 8 (lows 8 w) ys r
+  unfolding lows
+  stored-eight w h = let e : w / 4294967296 ≡ w / 256 / 256 / 256 / 256 = omega arith in rw e at h
+
+  pub put-turned : (n v w : ℕ) → w ≡ more 0 (lows n v) → Wrote xs at n (lows n w) ys r → Wrote xs at n (digits n v) ys r
+  put-turned n v w e h = rw (e, lows-turned n v) at h

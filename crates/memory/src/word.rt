@@ -42,7 +42,15 @@ pub fn word_8(s: &[u8], at: usize) -> u64
     a + b * 4294967296
 }
 
-// The last four bytes of a number in the other order.
+// The last two bytes of a number in the other order; four, and eight.
+pub fn turn_2(v: u64) -> u64
+    ensures { λ r. ⌜ r ≡ more 0 (lows 2 v) ⌝ }
+{
+    let a = low(v);
+    let b = low(v / 256);
+    a * 256 + b
+}
+
 pub fn turn_4(v: u64) -> u64
     ensures { λ r. ⌜ r ≡ more 0 (lows 4 v) ⌝ }
     ensures { λ r. ⌜ r < 256 ^ 4 ⌝ }
@@ -56,7 +64,6 @@ pub fn turn_4(v: u64) -> u64
     ((a * 256 + b) * 256 + c) * 256 + d
 }
 
-// The eight bytes of a number in the other order.
 pub fn turn_8(v: u64) -> u64
     ensures { λ r. ⌜ r ≡ more 0 (lows 8 v) ⌝ }
     ensures { λ r. ⌜ r < 256 ^ 8 ⌝ }
