@@ -1,8 +1,8 @@
 -- What stands at the front of a list of bytes: numbers and runs, read where they stand.
-use Prim.Native.Nat.{ℕ, suc, _+_, _-_, _*_, _^_, _≤_, _<_}
+use Prim.Native.Nat.{ℕ, _+_, _-_, _*_, _^_, _≤_, _<_}
 use mathlib.Core.Path.{_≡_, refl, sym, _∙_}
 use mathlib.Core.Option.{none, some}
-use mathlib.Core.List.{List, _∷_}
+use mathlib.Core.List.{List}
 use native.Mathlib.Nat.{lt-of-lt-of-le, pow-le-pow-right, pow-suc}
 use native.Mathlib.Numerals.{add-one}
 use native.Mathlib.Omega.{arith}
@@ -94,46 +94,3 @@ pub byte-word : {x : ℕ} → Fits w8 x → Fits w64 x
 byte-word h = omega arith
 
 pub ruleset counting = (needs, byte-word, counting-start, counting-mul, counting-fits, counting-turn, counting-end, counting-small)
-
--- ---- numbers of eight and of four bytes
-window : (s : List ℕ) (k n : ℕ) → k < length s → take (suc n) (drop k s) ≡ getD s k 0 ∷ take n (drop (suc k) s)
-window s k n p = rw (drop-cons s k 0 p)
-
-pub more-four : (s : List ℕ) (at : ℕ) → at + 4 ≤ length s
-    → more 0 (take 4 (drop at s)) ≡ ((getD s at 0 * 256 + getD s (at + 1) 0) * 256 + getD s (at + 2) 0) * 256 + getD s (at + 3) 0
-unfolding more
-more-four s at h =
-    let w0 = window s at 3 (omega arith) in
-    let w1 = window s (at + 1) 2 (omega arith) in
-    let w2 = window s (at + 2) 1 (omega arith) in
-    let w3 = window s (at + 3) 0 (omega arith) in
-    let a1 : suc at ≡ at + 1 = omega arith in
-    let a2 : suc (at + 1) ≡ at + 2 = omega arith in
-    let a3 : suc (at + 2) ≡ at + 3 = omega arith in
-    rw (w0, a1, w1, a2, w2, a3, w3) (omega arith)
-
-pub more-eight : (s : List ℕ) (at : ℕ) → at + 8 ≤ length s → more 0 (take 8 (drop at s)) ≡ (((((((getD s at 0) * 256 + getD s (at + 1) 0) * 256 + getD s (at + 2) 0) * 256 + getD s (at + 3) 0) * 256 + getD s (at + 4) 0) * 256 + getD s (at + 5) 0) * 256 + getD s (at + 6) 0) * 256 + getD s (at + 7) 0
-unfolding more
-more-eight s at h =
-    let w0 = window s at 7 (omega arith) in
-    let w1 = window s (at + 1) 6 (omega arith) in
-    let w2 = window s (at + 2) 5 (omega arith) in
-    let w3 = window s (at + 3) 4 (omega arith) in
-    let w4 = window s (at + 4) 3 (omega arith) in
-    let w5 = window s (at + 5) 2 (omega arith) in
-    let w6 = window s (at + 6) 1 (omega arith) in
-    let w7 = window s (at + 7) 0 (omega arith) in
-    let a1 : suc at ≡ at + 1 = omega arith in
-    let a2 : suc (at + 1) ≡ at + 2 = omega arith in
-    let a3 : suc (at + 2) ≡ at + 3 = omega arith in
-    let a4 : suc (at + 3) ≡ at + 4 = omega arith in
-    let a5 : suc (at + 4) ≡ at + 5 = omega arith in
-    let a6 : suc (at + 5) ≡ at + 6 = omega arith in
-    let a7 : suc (at + 6) ≡ at + 7 = omega arith in
-    rw (w0, a1, w1, a2, w2, a3, w3, a4, w4, a5, w5, a6, w6, a7, w7) (omega arith)
-
-pub be-four : (s : List ℕ) (at a b c d : ℕ) → at + 4 ≤ length s → a ≡ getD s at 0 → b ≡ getD s (at + 1) 0 → c ≡ getD s (at + 2) 0 → d ≡ getD s (at + 3) 0 → ((a * 256 + b) * 256 + c) * 256 + d ≡ more 0 (take 4 (drop at s))
-be-four s at a b c d l a′ b′ c′ d′ = let m = more-four s at l in omega arith
-
-pub be-eight : (s : List ℕ) (at a b c d e f g h : ℕ) → at + 8 ≤ length s → a ≡ getD s at 0 → b ≡ getD s (at + 1) 0 → c ≡ getD s (at + 2) 0 → d ≡ getD s (at + 3) 0 → e ≡ getD s (at + 4) 0 → f ≡ getD s (at + 5) 0 → g ≡ getD s (at + 6) 0 → h ≡ getD s (at + 7) 0 → ((((((a * 256 + b) * 256 + c) * 256 + d) * 256 + e) * 256 + f) * 256 + g) * 256 + h ≡ more 0 (take 8 (drop at s))
-be-eight s at a b c d e f g h l a′ b′ c′ d′ e′ f′ g′ h′ = let m = more-eight s at l in omega arith

@@ -9,12 +9,11 @@ use borrow.Author.Tests.{eq-eqb, ne-eqb, lt-ltb, le-ltb, eqb-true, eqb-false, lt
 use mir.Syntax.{w8}
 use mir.Val.{Fits}
 use lib.Dec.{eqb, ltb}
-use lib.Seq.{drop-drop, take-add, length-take-le, take-take, take-nil}
-use lib.ListN.{length, take, drop, getD, length-drop, take-append-drop}
+use lib.Seq.{drop-drop, take-add, length-take-le, take-nil}
+use lib.ListN.{length, take, drop, getD, length-drop}
 use Rattle.rules.specs.Base.{same, All, if_then_else_}
 use Rattle.rules.specs.Std.{before}
 use Rattle.rules.specs.Field.{more}
-use Rattle.laws.specs.Beside.{Beside}
 
 -- each element is a byte
 abbrev pub Octets : List ℕ → Type 0
@@ -24,7 +23,7 @@ all-known : (xs : List ℕ) → ((i : ℕ) → Fits w8 (getD xs i 0)) → Octets
 all-known [] f = tt
 all-known (x ∷ xs) f = (f 0 .fits, all-known xs (λ i. f (suc i)))
 
-octets-take : (n : ℕ) (xs : List ℕ) → Octets xs → Octets (take n xs)
+pub octets-take : (n : ℕ) (xs : List ℕ) → Octets xs → Octets (take n xs)
 octets-take zero xs a = tt
 octets-take (suc n) [] a = tt
 octets-take (suc n) (x ∷ xs) a = (a .0, octets-take n xs (a .1))
@@ -131,42 +130,6 @@ drop-take (suc i) (suc n) (x ∷ xs) = rw suc-sub-suc (drop-take i n xs)
 -- what is left of a run
 pub run-rest : (n : ℕ) (s : List ℕ) (at i : ℕ) → drop i (take n (drop at s)) ≡ take (n - i) (drop (at + i) s)
 run-rest n s at i = drop-take i n (drop at s) ∙ rw drop-drop
-
--- the first k of it
-pub run-split : (k n : ℕ) (s : List ℕ) (at i : ℕ) → k ≤ n - i → drop i (take n (drop at s)) ≡ take k (drop (at + i) s) ++ drop (i + k) (take n (drop at s))
-run-split k n s at i h =
-    sym (take-append-drop k (drop i (take n (drop at s))))
-    ∙ rw (drop-drop, run-rest n s at i, take-take k (n - i) (drop (at + i) s) h)
-
--- ---- a loop that compares by words of k bytes
-module _ {o : Bool} {n : ℕ} {s : List ℕ} {at : ℕ} {t : List ℕ} {from i : ℕ} (a : Beside o same n s at t from i) where
-  module _ (k : ℕ) (h : k ≤ n - i) (f : (j : ℕ) → Fits w8 (getD s j 0)) (g : (j : ℕ) → Fits w8 (getD t j 0)) where
-    word : o ≡ (eqb (more 0 (take k (drop (at + i) s))) (more 0 (take k (drop (from + i) t))) && same (drop (i + k) (take n (drop at s))) (drop (i + k) (take n (drop from t))))
-    word =
-        let l : length (take k (drop (at + i) s)) ≡ k = length-take-le k (drop (at + i) s) (rw length-drop (omega arith)) in
-        let m : length (take k (drop (from + i) t)) ≡ k = length-take-le k (drop (from + i) t) (rw length-drop (omega arith)) in
-        a .left
-        ∙ rw (
-          run-split k n s at i h,
-          run-split k n t from i h,
-          same-append (take k (drop (at + i) s)) (take k (drop (from + i) t)) (drop (i + k) (take n (drop at s))) (drop (i + k) (take n (drop from t))) (l ∙ sym m),
-          number-same 0 (take k (drop (at + i) s)) (take k (drop (from + i) t)) (octets-run k (at + i) s f) (octets-run k (from + i) t g) (l ∙ sym m),
-        )
-
-    pub word-stop : (more 0 (take k (drop (at + i) s)) ≡ more 0 (take k (drop (from + i) t)) → ⊥) → false ≡ o
-    word-stop d = sym (word ∙ rw (ne-eqb (more 0 (take k (drop (at + i) s))) (more 0 (take k (drop (from + i) t))) d))
-
-    pub word-on : more 0 (take k (drop (at + i) s)) ≡ more 0 (take k (drop (from + i) t)) → Beside o same n s at t from (i + k)
-    word-on e = record {
-      within = omega arith;
-      room = a .room;
-      room′ = a .room′;
-      left = word ∙ rw (eq-eqb (more 0 (take k (drop (at + i) s))) (more 0 (take k (drop (from + i) t))) e);
-    }
-
-  -- what is left, compared by another
-  pub rest-same : {r : Bool} → r ≡ same (take (n - i) (drop (at + i) s)) (take (n - i) (drop (from + i) t)) → r ≡ o
-  rest-same q = q ∙ rw (← run-rest n s at i, ← run-rest n t from i) (sym (a .left))
 
 -- two runs of two words each, in their order
 module _ (k : ℕ) (s : List ℕ) (at : ℕ) (t : List ℕ) (from : ℕ) (r : at + (k + k) ≤ length s) (r′ : from + (k + k) ≤ length t)

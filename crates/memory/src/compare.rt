@@ -1,5 +1,7 @@
 // Runs of bytes compared where they stand: whether they are the same, and their order.
 use crate::read::get_8;
+use crate::word::word_4;
+use crate::word::word_8;
 ghost use mathlib.Core.Path.{_≡_};
 ghost use Prim.Native.Nat.{_+_, _≤_};
 ghost use lib.ListN.{length, take, drop};
@@ -22,20 +24,49 @@ fn same_rest(s: &[u8], at: usize, t: &[u8], from: usize, n: usize) -> bool
     true
 }
 
-// Whether n bytes of two slices are the same: eight at a time, and then the rest.
+// Whether four to eight bytes of two slices are the same: the first four, and the last.
+pub fn same_short(s: &[u8], at: usize, t: &[u8], from: usize, n: usize) -> bool
+    requires { ⌜ 4 ≤ n ⌝ }
+    requires { ⌜ n ≤ 8 ⌝ }
+    requires { ⌜ at + n ≤ length (now s) ⌝ }
+    requires { ⌜ from + n ≤ length (now t) ⌝ }
+    ensures { λ r. ⌜ r ≡ same (take n (drop at (now (s .entry)))) (take n (drop from (now (t .entry)))) ⌝ }
+{
+    if word_4(s, at) != word_4(t, from) {
+        return false;
+    }
+    let last = n - 4;
+    word_4(s, at + last) == word_4(t, from + last)
+}
+
+// Whether eight bytes or more of two slices are the same: eight at a time, and the last eight.
+pub fn same_long(s: &[u8], at: usize, t: &[u8], from: usize, n: usize) -> bool
+    requires { ⌜ 8 ≤ n ⌝ }
+    requires { ⌜ at + n ≤ length (now s) ⌝ }
+    requires { ⌜ from + n ≤ length (now t) ⌝ }
+    ensures { λ r. ⌜ r ≡ same (take n (drop at (now (s .entry)))) (take n (drop from (now (t .entry)))) ⌝ }
+{
+    let last = n - 8;
+    let mut i = 0;
+    while i < last {
+        if word_8(s, at + i) != word_8(t, from + i) {
+            return false;
+        }
+        i += 8;
+    }
+    word_8(s, at + last) == word_8(t, from + last)
+}
+
+// Whether n bytes of two slices are the same.
 pub fn same_run(s: &[u8], at: usize, t: &[u8], from: usize, n: usize) -> bool
     requires { ⌜ at + n ≤ length (now s) ⌝ }
     requires { ⌜ from + n ≤ length (now t) ⌝ }
     ensures { λ r. ⌜ r ≡ same (take n (drop at (now (s .entry)))) (take n (drop from (now (t .entry)))) ⌝ }
 {
-    let mut i = 0;
-    while 8 <= n - i {
-        if get_8(s, at + i) != get_8(t, from + i) {
-            return false;
-        }
-        i += 8;
+    if n < 8 {
+        return same_rest(s, at, t, from, n);
     }
-    same_rest(s, at + i, t, from + i, n - i)
+    same_long(s, at, t, from, n)
 }
 
 // Whether 16 bytes of a slice come before 16 bytes of another: the first that differ decide.

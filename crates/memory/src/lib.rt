@@ -1,4 +1,5 @@
 // Bytes in lent memory: numbers and runs read, written, compared and cleared where they stand.
 pub mod compare;
 pub mod read;
+pub mod word;
 pub mod write;

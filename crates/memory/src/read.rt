@@ -1,4 +1,8 @@
 // Numbers and runs of bytes read at a place of a lent slice.
+use crate::word::turn_4;
+use crate::word::turn_8;
+use crate::word::word_4;
+use crate::word::word_8;
 ghost use mathlib.Core.Path.{_≡_};
 ghost use mathlib.Core.List.{_++_};
 ghost use Prim.Native.Nat.{_+_, _-_, _^_, _≤_, _<_};
@@ -13,41 +17,22 @@ pub fn get_byte(s: &[u8], at: usize) -> u8
     s[at]
 }
 
-fn wide(x: u8) -> u64
-    ensures { λ r. ⌜ r ≡ x ⌝ }
-    ensures { λ r. ⌜ r < 256 ⌝ }
-{
-    x as u64
-}
-
-// The number of four bytes, the most significant first: one load.
+// The number of four bytes, the most significant first.
 fn get_4(s: &[u8], at: usize) -> u64
     requires { ⌜ at + 4 ≤ length (now s) ⌝ }
     ensures { λ r. ⌜ r ≡ more 0 (take 4 (drop at (now (s .entry)))) ⌝ }
     ensures { λ r. ⌜ r < 256 ^ 4 ⌝ }
 {
-    let a = wide(s[at]);
-    let b = wide(s[at + 1]);
-    let c = wide(s[at + 2]);
-    let d = wide(s[at + 3]);
-    ((a * 256 + b) * 256 + c) * 256 + d
+    turn_4(word_4(s, at))
 }
 
-// The number of eight bytes: one load.
+// The number of eight bytes.
 pub fn get_8(s: &[u8], at: usize) -> u64
     requires { ⌜ at + 8 ≤ length (now s) ⌝ }
     ensures { λ r. ⌜ r ≡ more 0 (take 8 (drop at (now (s .entry)))) ⌝ }
     ensures { λ r. ⌜ r < 256 ^ 8 ⌝ }
 {
-    let a = wide(s[at]);
-    let b = wide(s[at + 1]);
-    let c = wide(s[at + 2]);
-    let d = wide(s[at + 3]);
-    let e = wide(s[at + 4]);
-    let f = wide(s[at + 5]);
-    let g = wide(s[at + 6]);
-    let h = wide(s[at + 7]);
-    ((((((a * 256 + b) * 256 + c) * 256 + d) * 256 + e) * 256 + f) * 256 + g) * 256 + h
+    turn_8(word_8(s, at))
 }
 
 // The number of n bytes, byte by byte.

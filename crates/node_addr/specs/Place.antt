@@ -1,23 +1,26 @@
 -- Pairs and messages in lent memory: what their cells show, when a cell is canonical, what is written, and that canonical cells which show the same are the same.
 use mathlib.Core.Path.{_≡_, refl, sym, ap, _∙_}
-use mathlib.Core.Bool.{Bool, false}
-use mathlib.Core.List.{List, [], _∷_, _++_, append-assoc, append-nil}
-use Prim.Native.Nat.{ℕ, _+_, _≤_, _<_, _^_}
+use mathlib.Core.Bool.{Bool, true, false, _&&_}
+use mathlib.Core.List.{[], _∷_, _++_, append-assoc, append-nil}
+use Prim.Native.Nat.{ℕ, _+_, _≤_}
+use native.Mathlib.Numerals.{one-add}
 use native.Mathlib.Omega.{arith}
-use lib.Dec.{lit≤}
-use lib.Seq.{take-take, take-at, drop-at, take-all, take-add, drop-drop, length-take-le}
-use lib.ListN.{length, take, drop, getD, replicate, length-append, length-take, length-drop, length-replicate, take-append-drop}
-use mir.Syntax.{w32}
+use borrow.Author.Tests.{eqb-true, eqb-false}
+use lib.Dec.{eqb, lit≤}
+use lib.Seq.{take-take, take-at, drop-at, take-all, take-add, drop-drop, drop-cons, getD-drop, length-take-le}
+use lib.ListN.{length, take, drop, getD, replicate, length-append, length-take, length-drop, take-append-drop}
+use mir.Syntax.{w8, w32}
 use mir.Val.{Fits}
 use Rattle.rules.specs.Base.{Bytes, All, same}
 use Rattle.rules.specs.Bounds.{IsByte}
 use Rattle.rules.specs.Data.{Pair, samePair}
 use Rattle.rules.specs.Field.{more, digits}
-use Rattle.laws.specs.Shift.{Kept, all-take, all-drop}
-use Rattle.laws.specs.Buffer.{Any, all-any}
+use Rattle.laws.specs.Shift.{all-take}
+use Rattle.laws.specs.Buffer.{all-any}
+use Rattle.laws.specs.Beside.{same-apart}
+use Rattle.laws.specs.Words.{Octets, octets-run, octets-take, number-same, same-append}
 use Rattle.laws.specs.Splice.{length-digits, Wrote}
 use Rattle.laws.specs.Round.{more-digits}
-use Rattle.laws.specs.Part.{part-zeros}
 use Rattle.laws.specs.Cell.{num, byteOf, textOf, Text, text-same, num-same}
 use Rattle.node_addr.specs.View.{viewPair, viewMessage, FitPair, FitMessage}
 use Rattle.node_addr.specs.Alike.{part-of, byte-here, pair-unlike, pair-like, same-unlike, same-kept}
@@ -145,6 +148,48 @@ module _ (s : Bytes) (at : ℕ) (p : pair.Pair) where
       (record { transport = num (take 4 (drop at s)); addr = textOf (take 1 (drop (at + 4) s)) (take 48 (drop (at + 5) s)) })
       (sym d ∙ e)
       (same-kept (f .addr .kept) (pair-text s at c .kept) (sym h ∙ g ∙ byte-here s (at + 4)) (k ∙ rw (take-take 48 48 (drop (at + 5) s) (lit≤ tt)))))
+
+-- ---- a pair as a record spells it: transport 4, length 1, and as many bytes
+
+unfoldable pub pairHere : Bytes → Pair
+pairHere s = record { transport = num (take 4 s); addr = take (getD s 4 0) (drop 5 s) }
+
+pair-cut : (n : ℕ) (s : Bytes) → 5 + n ≤ length s → take (5 + n) s ≡ take 4 s ++ (getD s 4 0 ∷ take n (drop 5 s))
+pair-cut n s h =
+    let e : 5 + n ≡ 4 + (1 + n) = omega arith in
+    rw (e, take-add 4 (1 + n) s, one-add n, drop-cons s 4 0 (omega arith))
+
+-- beside a cell: one run of bytes decides
+spelt-beside : (s c : Bytes) → length c ≡ 53 → Text 48 (take 1 (drop 4 c)) (take 48 (drop 5 c)) → getD s 4 0 ≤ 48 → 5 + getD s 4 0 ≤ length s → Octets (take 4 s) → Octets (take 4 c)
+    → same (take (5 + getD s 4 0) s) (take (5 + getD s 4 0) c) ≡ (eqb (num (take 4 s)) (num (take 4 c)) && same (take (getD s 4 0) (drop 5 s)) (textOf (take 1 (drop 4 c)) (take 48 (drop 5 c))))
+spelt-beside s c k x h l a b =
+    rw (
+      pair-cut (getD s 4 0) s l,
+      pair-cut (getD s 4 0) c (omega arith),
+      same-append (take 4 s) (take 4 c) (getD s 4 0 ∷ take (getD s 4 0) (drop 5 s)) (getD c 4 0 ∷ take (getD s 4 0) (drop 5 c)) fours,
+      number-same 0 (take 4 s) (take 4 c) a b fours,
+      ← byte-here c 4,
+      take-all 48 (drop 5 c) (rw length-drop (omega arith)),
+    ) (ap (λ (r : Bool). eqb (num (take 4 s)) (num (take 4 c)) && r) (go (eqb (getD s 4 0) (getD c 4 0)) refl))
+  where
+    fours : length (take 4 s) ≡ length (take 4 c)
+    fours = length-take-le 4 s (omega arith) ∙ sym (length-take-le 4 c (omega arith))
+
+    go : (r : Bool) → eqb (getD s 4 0) (getD c 4 0) ≡ r → (r && same (take (getD s 4 0) (drop 5 s)) (take (getD s 4 0) (drop 5 c))) ≡ same (take (getD s 4 0) (drop 5 s)) (take (getD c 4 0) (drop 5 c))
+    go true q = rw (eqb-true (getD s 4 0) (getD c 4 0) q)
+    go false q = sym (same-apart (take (getD s 4 0) (drop 5 s)) (take (getD c 4 0) (drop 5 c)) (λ e. eqb-false (getD s 4 0) (getD c 4 0) q (
+        let m : getD c 4 0 ≤ 48 = rw (← byte-here c 4) at (x .kept .small) in
+        sym (length-take-le (getD s 4 0) (drop 5 s) (rw length-drop (omega arith))) ∙ e ∙ length-take-le (getD c 4 0) (drop 5 c) (rw length-drop (omega arith)))))
+
+pub pair-spelt : {r : Bool} (s : Bytes) (at : ℕ) (u : Bytes) (from : ℕ) → PairCell (take 53 (drop at s)) → getD u (from + 4) 0 ≤ 48 → from + 5 + getD u (from + 4) 0 ≤ length u
+    → ((j : ℕ) → Fits w8 (getD s j 0)) → ((j : ℕ) → Fits w8 (getD u j 0))
+    → r ≡ same (take (5 + getD u (from + 4) 0) (drop from u)) (take (5 + getD u (from + 4) 0) (drop at s)) → r ≡ samePair (pairHere (drop from u)) (pairOf (take 53 (drop at s)))
+unfolding pairHere pairOf
+pair-spelt s at u from c h l f g e =
+    let n : getD (drop from u) 4 0 ≡ getD u (from + 4) 0 = getD-drop from u 4 0 in
+    e
+    ∙ rw (← n, ← take-take (5 + getD (drop from u) 4 0) 53 (drop at s) (rw n (omega arith))) (
+    spelt-beside (drop from u) (take 53 (drop at s)) (c .size) (c .addr) (rw n h) (rw (n, length-drop) (omega arith)) (octets-run 4 from u g) (octets-take 4 (take 53 (drop at s)) (octets-run 53 at s f)))
 
 -- ---- a message, 129 bytes: length 1, bytes 128 with zeros behind
 

@@ -5,10 +5,13 @@ use crate::Message;
 use crate::NodeAddr;
 use crate::Pair;
 use crate::TransportId;
+use crate::run::same_16;
 use crate::run::same_32;
 use crate::run::same_48;
 use memory::compare::before_run;
+use memory::compare::same_long;
 use memory::compare::same_run;
+use memory::compare::same_short;
 use memory::read::get_be;
 use memory::read::get_byte;
 use memory::read::take_16;
@@ -23,13 +26,13 @@ use memory::write::put_be;
 use memory::write::put_byte;
 ghost use mathlib.Core.Path.{_≡_};
 ghost use Prim.Native.Nat.{_+_, _≤_};
-ghost use lib.ListN.{length, take, drop};
+ghost use lib.ListN.{length, take, drop, getD};
 ghost use Rattle.rules.specs.Base.{same};
 ghost use Rattle.rules.specs.Std.{before};
 ghost use Rattle.rules.specs.Data.{samePair};
 ghost use Rattle.laws.specs.Splice.{Wrote};
 ghost use Rattle.node_addr.specs.View.{viewPair, viewMessage, FitPair, FitMessage};
-ghost use Rattle.node_addr.specs.Place.{pairOf, pairCell, PairCell, messageOf, messageCell, MessageCell};
+ghost use Rattle.node_addr.specs.Place.{pairOf, pairHere, pairCell, PairCell, messageOf, messageCell, MessageCell};
 
 pub fn load_node(s: &[u8], at: usize) -> NodeAddr
     requires { ⌜ at + 16 ≤ length (now s) ⌝ }
@@ -52,7 +55,7 @@ pub fn node_here(s: &[u8], at: usize, n: NodeAddr) -> bool
     ensures { λ r. ⌜ r ≡ same (n .0) (take 16 (drop at (now (s .entry)))) ⌝ }
 {
     let b = n.0;
-    same_run(&b, 0, s, at, 16)
+    same_16(&b, 0, s, at)
 }
 
 // Whether a node address comes before the one at a place.
@@ -132,6 +135,22 @@ pub fn pair_here(s: &[u8], at: usize, p: Pair) -> bool
     }
     let b = p.addr.bytes;
     same_48(&b, 0, s, at + 5)
+}
+
+// Whether the pair at a place is the one that a record spells at another: the length is among the first bytes, so that one run decides.
+pub fn pair_stands(s: &[u8], at: usize, rec: &[u8], from: usize) -> bool
+    requires { ⌜ at + 53 ≤ length (now s) ⌝ }
+    requires { ⌜ PairCell (take 53 (drop at (now s))) ⌝ }
+    requires { ⌜ from + 5 ≤ length (now rec) ⌝ }
+    requires { ⌜ getD (now rec) (from + 4) 0 ≤ 48 ⌝ }
+    requires { ⌜ from + 5 + getD (now rec) (from + 4) 0 ≤ length (now rec) ⌝ }
+    ensures { λ r. ⌜ r ≡ samePair (pairHere (drop from (now (rec .entry)))) (pairOf (take 53 (drop at (now (s .entry))))) ⌝ }
+{
+    let n = 5 + get_byte(rec, from + 4) as usize;
+    if n < 8 {
+        return same_short(rec, from, s, at, n);
+    }
+    same_long(rec, from, s, at, n)
 }
 
 pub fn load_message(s: &[u8], at: usize) -> Message

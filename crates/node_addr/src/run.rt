@@ -1,19 +1,30 @@
-// Runs of 32 and 48 bytes compared where they stand, 16 at a time, which the compiler makes comparisons of words.
-use memory::compare::same_run;
+// Runs of 16, 32 and 48 bytes compared where they stand, word by word, up to the first that differs.
+use memory::word::word_8;
 ghost use mathlib.Core.Path.{_≡_};
 ghost use Prim.Native.Nat.{_+_, _≤_};
 ghost use lib.ListN.{length, take, drop};
 ghost use Rattle.rules.specs.Base.{same};
+
+pub fn same_16(s: &[u8], at: usize, t: &[u8], from: usize) -> bool
+    requires { ⌜ at + 16 ≤ length (now s) ⌝ }
+    requires { ⌜ from + 16 ≤ length (now t) ⌝ }
+    ensures { λ r. ⌜ r ≡ same (take 16 (drop at (now (s .entry)))) (take 16 (drop from (now (t .entry)))) ⌝ }
+{
+    if word_8(s, at) != word_8(t, from) {
+        return false;
+    }
+    word_8(s, at + 8) == word_8(t, from + 8)
+}
 
 pub fn same_32(s: &[u8], at: usize, t: &[u8], from: usize) -> bool
     requires { ⌜ at + 32 ≤ length (now s) ⌝ }
     requires { ⌜ from + 32 ≤ length (now t) ⌝ }
     ensures { λ r. ⌜ r ≡ same (take 32 (drop at (now (s .entry)))) (take 32 (drop from (now (t .entry)))) ⌝ }
 {
-    if !same_run(s, at, t, from, 16) {
+    if !same_16(s, at, t, from) {
         return false;
     }
-    same_run(s, at + 16, t, from + 16, 16)
+    same_16(s, at + 16, t, from + 16)
 }
 
 pub fn same_48(s: &[u8], at: usize, t: &[u8], from: usize) -> bool
@@ -24,5 +35,5 @@ pub fn same_48(s: &[u8], at: usize, t: &[u8], from: usize) -> bool
     if !same_32(s, at, t, from) {
         return false;
     }
-    same_run(s, at + 32, t, from + 32, 16)
+    same_16(s, at + 32, t, from + 32)
 }

@@ -4,6 +4,7 @@ use crate::Digest;
 use crate::Message;
 use crate::NodeAddr;
 use crate::Pair;
+use crate::run::same_16;
 use crate::run::same_32;
 use crate::run::same_48;
 use memory::compare::before_run;
@@ -19,7 +20,7 @@ pub fn same_node(a: NodeAddr, b: NodeAddr) -> bool
 {
     let x = a.0;
     let y = b.0;
-    same_run(&x, 0, &y, 0, 16)
+    same_16(&x, 0, &y, 0)
 }
 
 pub fn node_before(a: NodeAddr, b: NodeAddr) -> bool

@@ -1,52 +1,20 @@
 -- `memory::read::get_8` meets its contract.
 use native.Mathlib.Omega.{arith}
-use Rattle.laws.specs.Parse.{be-eight}
+use mathlib.Core.Path.{_∙_}
+use Rattle.laws.specs.Little.{lows-run}
 use borrow.Author.Needs.{needs}
 use Rattle.memory.proofs.read.get_8.Statement.{statement}
 use Rattle.memory.proofs.read.get_8.Tie as tie
 
 returns : tie.Need-returns
-returns c = (search (needs, be-eight), omega arith)
+returns c =
+    let v = c .before .before .before .args in
+    (c .turn-8 .ensures .0 ∙ rw (c .before .word-8 .ensures, lows-run 8 (v .s .now) (v .at) (omega arith) (c .before .before .shared-slice-known .given)), c .turn-8 .ensures .1)
 
 pub get-8-spec : {M : Type 1} → statement M
 get-8-spec =
     tie.close
     (tie.spec
-    (λ c. search needs)
     (λ c κs. search needs)
-    (λ c. search needs)
-    (λ c. search needs)
     (λ c κs. search needs)
-    (λ c. search needs)
-    (λ c. search needs)
-    (λ c κs. search needs)
-    (λ c. search needs)
-    (λ c. search needs)
-    (λ c κs. search needs)
-    (λ c. search needs)
-    (λ c. search needs)
-    (λ c κs. search needs)
-    (λ c. search needs)
-    (λ c. search needs)
-    (λ c κs. search needs)
-    (λ c. search needs)
-    (λ c. search needs)
-    (λ c κs. search needs)
-    (λ c. search needs)
-    (λ c. search needs)
-    (λ c κs. search needs)
-    (λ c. search needs)
-    (λ c. search needs)
-    (λ c. search needs)
-    (λ c. search needs)
-    (λ c. search needs)
-    (λ c. search needs)
-    (λ c. search needs)
-    (λ c. search needs)
-    (λ c. search needs)
-    (λ c. search needs)
-    (λ c. search needs)
-    (λ c. search needs)
-    (λ c. search needs)
-    (λ c. search needs)
     returns)

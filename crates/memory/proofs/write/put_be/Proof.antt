@@ -1,27 +1,34 @@
 -- `memory::write::put_be` meets its contract.
-use Rattle.laws.specs.Splice.{Putting, writing}
+use Rattle.laws.specs.Little.{put-turned}
+use borrow.Author.Needs.{needs}
 use Rattle.memory.proofs.write.put_be.Statement.{statement}
 use Rattle.memory.proofs.write.put_be.Tie as tie
 
-abbrev Inv-loop : tie.InvT-loop
-Inv-loop s₀ at v n i₀ w₀ s i w = Putting s₀ at n v s i w
+returns : tie.Need-returns
+returns c = rw (c .before .before .before .before .before .if1 .taken) (put-turned 8 _ _ (c .before .before .before .turn-8 .ensures .0) (c .before .before .store-8 .ensures))
 
-abbrev μ-loop : tie.MeasureT-loop
-μ-loop s₀ at v n i₀ w₀ s i w = i
+returns-2 : tie.Need-returns-2
+returns-2 c = rw (c .before .before .before .before .before .if2 .taken) (put-turned 4 _ _ (c .before .before .before .turn-4 .ensures .0) (c .before .before .store-4 .ensures))
+
+returns-3 : tie.Need-returns-3
+returns-3 c = rw (c .before .before .before .before .before .if3 .taken) (put-turned 2 _ _ (c .before .before .before .turn-2 .ensures) (c .before .before .store-2 .ensures))
 
 pub put-be-spec : {M : Type 1} → statement M
 put-be-spec =
     tie.close
     (tie.spec
-    Inv-loop
-    μ-loop
-    (λ c. search writing)
-    (λ c. search writing)
-    (λ c. search writing)
-    (λ c. search writing)
-    (λ c. search writing)
-    (λ c. search writing)
-    (λ c. search writing)
-    (λ c. search writing)
-    (λ c. search writing)
-    (λ c. search writing))
+    (λ c κs. search needs)
+    (λ c κs. search needs)
+    (λ c. search needs)
+    returns
+    (λ c κs. search needs)
+    (λ c κs. search needs)
+    (λ c. search needs)
+    returns-2
+    (λ c κs. search needs)
+    (λ c κs. search needs)
+    (λ c. search needs)
+    returns-3
+    (λ c κs. search needs)
+    (λ c. search needs)
+    (λ c. search needs))

@@ -7,15 +7,15 @@ use borrow.Author.Needs.{needs}
 use Rattle.node_addr.proofs.place.node_here.Statement.{statement}
 use Rattle.node_addr.proofs.place.node_here.Tie as tie
 
-same-run-requires : tie.Need-same-run-requires
-same-run-requires c κs =
+same-16-requires : tie.Need-same-16-requires
+same-16-requires c κs =
     let x : length (c .before .before .before .args .n .0) ≡ 16 = search needs in
     (omega arith, omega arith)
 
 returns : tie.Need-returns
 returns c =
     let v = c .before .before .before .before .args in
-    same-front 16 (v .n .0) (take 16 (drop (v .at) (v .s .now))) (search needs) (c .same-run .ensures)
+    same-front 16 (v .n .0) (take 16 (drop (v .at) (v .s .now))) (search needs) (c .same-16 .ensures)
 
 pub node-here-spec : {M : Type 1} → statement M
-node-here-spec = tie.close (tie.spec (λ c. search needs) same-run-requires returns)
+node-here-spec = tie.close (tie.spec (λ c. search needs) same-16-requires returns)

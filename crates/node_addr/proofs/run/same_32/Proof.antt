@@ -10,7 +10,7 @@ use Rattle.node_addr.proofs.run.same_32.Tie as tie
 returns : tie.Need-returns
 returns c =
     let v = c .before .before .before .before .args in
-    first-differs 16 16 (v .s .now) (v .at) (v .t .now) (v .from) (omega arith) (omega arith) (sym (c .before .same-run .ensures) ∙ not-true (c .before .same-run .result) (c .if1 .taken))
+    first-differs 16 16 (v .s .now) (v .at) (v .t .now) (v .from) (omega arith) (omega arith) (sym (c .before .same-16 .ensures) ∙ not-true (c .before .same-16 .result) (c .if1 .taken))
 
 returns-2 : tie.Need-returns-2
 returns-2 c =
@@ -25,8 +25,8 @@ returns-2 c =
     (v .from)
     (omega arith)
     (omega arith)
-    (sym (d .same-run .ensures) ∙ not-false (d .same-run .result) (c .before .if1 .left))
-    (c .same-run2 .ensures)
+    (sym (d .same-16 .ensures) ∙ not-false (d .same-16 .result) (c .before .if1 .left))
+    (c .same-162 .ensures)
 
 pub same-32-spec : {M : Type 1} → statement M
 same-32-spec =

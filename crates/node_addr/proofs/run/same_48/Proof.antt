@@ -26,7 +26,7 @@ returns-2 c =
     (omega arith)
     (omega arith)
     (sym (d .same-32 .ensures) ∙ not-false (d .same-32 .result) (c .before .if1 .left))
-    (c .same-run .ensures)
+    (c .same-16 .ensures)
 
 pub same-48-spec : {M : Type 1} → statement M
 same-48-spec =
