@@ -2,7 +2,7 @@
 use mathlib.Core.Path.{_≡_, refl, sym, ap, _∙_}
 use mathlib.Core.Bool.{Bool, true, false, _&&_}
 use mathlib.Core.List.{[], _∷_, _++_, append-assoc, append-nil}
-use Prim.Native.Nat.{ℕ, _+_, _≤_}
+use Prim.Native.Nat.{ℕ, _+_, _-_, _≤_}
 use native.Mathlib.Numerals.{one-add}
 use native.Mathlib.Omega.{arith}
 use borrow.Author.Tests.{eqb-true, eqb-false}
@@ -16,7 +16,7 @@ use Rattle.rules.specs.Bounds.{IsByte}
 use Rattle.rules.specs.Data.{Pair, samePair}
 use Rattle.rules.specs.Field.{more, digits}
 use Rattle.laws.specs.Shift.{all-take}
-use Rattle.laws.specs.Buffer.{all-any}
+use Rattle.laws.specs.Buffer.{all-any, kept-filled, shown-filled}
 use Rattle.laws.specs.Beside.{same-apart}
 use Rattle.laws.specs.Words.{Octets, octets-run, octets-take, number-same, same-append}
 use Rattle.laws.specs.Splice.{length-digits, Wrote}
@@ -153,6 +153,22 @@ module _ (s : Bytes) (at : ℕ) (p : pair.Pair) where
 
 unfoldable pub pairHere : Bytes → Pair
 pairHere s = record { transport = num (take 4 s); addr = take (getD s 4 0) (drop 5 s) }
+
+-- it stands whole at a place
+pub record PairIn (s : Bytes) (at : ℕ) : Type 0 where
+  pub small : getD s (at + 4) 0 ≤ 48
+  pub room : at + 5 + getD s (at + 4) 0 ≤ length s
+
+-- read by value
+pub spelt-loaded : (u : Bytes) (from t n : ℕ) (b : Bytes) → PairIn u from → t ≡ num (take 4 (drop from u)) → n ≡ getD u (from + 4) 0 → b ≡ take n (drop (from + 5) u) ++ replicate (48 - n) 0
+    → FitPair (record { transport = record { 0 = t }; addr = record { len = n; bytes = b } })
+    × (viewPair (record { transport = record { 0 = t }; addr = record { len = n; bytes = b } }) ≡ pairHere (drop from u))
+unfolding pairHere
+spelt-loaded u from t n b p et en eb =
+    let l : length (take n (drop (from + 5) u)) ≡ n = length-take-le n (drop (from + 5) u) (rw length-drop (omega (arith, p .room, en))) in (
+      record { addr = record { kept = kept-filled (take n (drop (from + 5) u)) 48 n b l (omega (arith, p .small, en)) eb } },
+      rw (shown-filled (take n (drop (from + 5) u)) (48 - n) n b l eb, et, getD-drop from u 4 0, ← en, drop-drop 5 from u),
+    )
 
 pair-cut : (n : ℕ) (s : Bytes) → 5 + n ≤ length s → take (5 + n) s ≡ take 4 s ++ (getD s 4 0 ∷ take n (drop 5 s))
 pair-cut n s h =

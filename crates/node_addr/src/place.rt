@@ -32,7 +32,7 @@ ghost use Rattle.rules.specs.Std.{before};
 ghost use Rattle.rules.specs.Data.{samePair};
 ghost use Rattle.laws.specs.Splice.{Wrote};
 ghost use Rattle.node_addr.specs.View.{viewPair, viewMessage, FitPair, FitMessage};
-ghost use Rattle.node_addr.specs.Place.{pairOf, pairHere, pairCell, PairCell, messageOf, messageCell, MessageCell};
+ghost use Rattle.node_addr.specs.Place.{pairOf, pairHere, PairIn, pairCell, PairCell, messageOf, messageCell, MessageCell};
 
 pub fn load_node(s: &[u8], at: usize) -> NodeAddr
     requires { ⌜ at + 16 ≤ length (now s) ⌝ }
@@ -141,9 +141,7 @@ pub fn pair_here(s: &[u8], at: usize, p: Pair) -> bool
 pub fn pair_stands(s: &[u8], at: usize, rec: &[u8], from: usize) -> bool
     requires { ⌜ at + 53 ≤ length (now s) ⌝ }
     requires { ⌜ PairCell (take 53 (drop at (now s))) ⌝ }
-    requires { ⌜ from + 5 ≤ length (now rec) ⌝ }
-    requires { ⌜ getD (now rec) (from + 4) 0 ≤ 48 ⌝ }
-    requires { ⌜ from + 5 + getD (now rec) (from + 4) 0 ≤ length (now rec) ⌝ }
+    requires { ⌜ PairIn (now rec) from ⌝ }
     ensures { λ r. ⌜ r ≡ samePair (pairHere (drop from (now (rec .entry)))) (pairOf (take 53 (drop at (now (s .entry))))) ⌝ }
 {
     let n = 5 + get_byte(rec, from + 4) as usize;
@@ -151,6 +149,21 @@ pub fn pair_stands(s: &[u8], at: usize, rec: &[u8], from: usize) -> bool
         return same_short(rec, from, s, at, n);
     }
     same_long(rec, from, s, at, n)
+}
+
+// A pair as a record spells it, by value.
+pub fn load_spelt(rec: &[u8], from: usize) -> Pair
+    requires { ⌜ PairIn (now rec) from ⌝ }
+    ensures { λ r. ⌜ FitPair r ⌝ }
+    ensures { λ r. ⌜ viewPair r ≡ pairHere (drop from (now (rec .entry))) ⌝ }
+{
+    let t = get_be(rec, from, 4);
+    let n = get_byte(rec, from + 4) as usize;
+    let b = take_48(rec, from + 5, n);
+    Pair {
+        transport: TransportId(t as u32),
+        addr: Addr { len: n, bytes: b },
+    }
 }
 
 pub fn load_message(s: &[u8], at: usize) -> Message

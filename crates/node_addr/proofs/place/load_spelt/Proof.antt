@@ -1,0 +1,12 @@
+-- `node_addr::place::load_spelt` meets its contract.
+use Rattle.node_addr.specs.Place.{spelt-loaded}
+use native.Mathlib.Omega.{arith}
+use borrow.Author.Needs.{needs}
+use Rattle.node_addr.proofs.place.load_spelt.Statement.{statement}
+use Rattle.node_addr.proofs.place.load_spelt.Tie as tie
+
+returns : tie.Need-returns
+returns c = spelt-loaded _ _ _ _ _ (c .before .before .before .before .pre) (c .before .before .get-be .ensures .0) (c .before .get-byte .ensures) (c .take-48 .ensures)
+
+pub load-spelt-spec : {M : Type 1} → statement M
+load-spelt-spec = tie.close (tie.spec (λ c κs. search needs) (λ c. search needs) (λ c κs. search needs) (λ c. search needs) (λ c. search needs) (λ c κs. search needs) (λ c. search needs) returns)
