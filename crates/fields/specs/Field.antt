@@ -5,7 +5,7 @@ use mathlib.Core.Option.{Option, none, some}
 use mathlib.Core.List.{List, [], _∷_, _++_}
 use Prim.Native.Nat.{ℕ, zero, suc, _+_, _*_, _-_, _≤_, _<_}
 use native.Mathlib.Omega.{arith}
-use borrow.Author.Tests.{leb-true, leb-false, not-false}
+use borrow.Author.Tests.{leb-true, leb-false, not-true, not-false}
 use lib.Dec.{eqb, leb}
 use lib.Seq.{drop-drop, length-take-le}
 use lib.ListN.{length, take, drop, getD, replicate, length-drop}
@@ -13,7 +13,9 @@ use Rattle.rules.specs.Base.{if_then_else_, option, Bytes}
 use Rattle.rules.specs.Field.{bind, number, bytes, upTo, pair, message, flags, flag, more}
 use Rattle.laws.specs.Parse.{number-yes, number-no, upTo-yes, upTo-no, upTo-big, byte-is}
 use Rattle.laws.specs.Buffer.{kept-filled, shown-filled}
+use Rattle.rules.specs.Data.{Pair}
 use Rattle.node_addr.specs.View.{viewPair, FitPair, FitMessage, blankPair, blankMessage}
+use Rattle.node_addr.specs.Place.{pairHere, PairIn}
 use Rattle.node_addr.specs.declared.Pair as pairs
 use Rattle.node_addr.specs.declared.Message as messages
 use Rattle.fields.specs.declared.ReadPair as readpair
@@ -26,6 +28,9 @@ noPair = record { ok = false; value = blankPair }
 
 abbrev pub noMessage : readmessage.ReadMessage
 noMessage = record { ok = false; value = blankMessage }
+
+pub never : {A : Type 0} → false ≡ true → A
+never e = absurd (let z : _≡_ {A = ℕ} 0 1 = cc in omega arith)
 
 -- ---- a message where it stands in a record
 
@@ -65,6 +70,28 @@ flag-told {ok} {v} {s} t h = record {
     seen false e = rw e
 
 -- ---- a pair: transport 4, length 1, address
+
+-- s begins with a pair whose address has n bytes, or with none
+pub record Spelt (s : Bytes) (ok : Bool) (n : ℕ) : Type 0 where
+  pub is : pair s ≡ (if ok then some (pairHere s, drop (5 + n) s) else none)
+  pub stands : ok ≡ true → PairIn s 0
+  pub size : ok ≡ true → n ≡ getD s 4 0
+
+pub unspelt : {s : Bytes} {n : ℕ} → pair s ≡ none → Spelt s false n
+unspelt e = record { is = e; stands = λ z. never z; size = λ z. never z }
+
+pub spelt-none : {s : Bytes} {ok : Bool} {n : ℕ} → Spelt s ok n → not ok ≡ true → pair s ≡ none
+spelt-none {ok = ok} w q = rw (not-true ok q) at (w .is)
+
+-- by value
+pub pair-copied : {s : Bytes} {ok : Bool} {n : ℕ} {p : pairs.Pair} → Spelt s ok n → not ok ≡ false → viewPair p ≡ pairHere s → FitPair p → Told (viewPair blankPair) (pair s) true (viewPair p) (5 + p .addr .len) s
+unfolding pairHere
+pair-copied {s} {ok} {n} {p} w g e f =
+    let q = not-false ok g in
+    let i = w .stands q in
+    let l : p .addr .len ≡ n = sym (length-take-le (p .addr .len) (p .addr .bytes) (omega (arith, f .addr .kept .small, f .addr .kept .size))) ∙ ap length (ap (λ (x : Pair). x .addr) e) ∙ length-take-le (getD s 4 0) (drop 5 s) (rw length-drop (omega (arith, i .room))) ∙ sym (w .size q) in
+    told-some (rw q at (w .is) ∙ rw (e, l)) (omega (arith, l, w .size q, i .room))
+
 module _ (s : Bytes) where
   pub pair-short : length s < 5 → pair s ≡ none
   unfolding pair bind
@@ -85,16 +112,13 @@ module _ (s : Bytes) where
     pub pair-cut : n ≤ 48 → length s - 5 < n → pair s ≡ none
     pair-cut k q = begun ∙ rw (upTo-no n (drop 5 s) 48 k (rw length-drop q))
 
-    pub pair-told : {t : ℕ} {bs : Bytes} → n ≤ 48 → n ≤ length s - 5 → t ≡ more 0 (take 4 s) → bs ≡ take n (drop 5 s) ++ replicate (48 - n) 0
-        → Told (viewPair blankPair) (pair s) true (record { transport = t; addr = take n bs }) (5 + n) s
-    pair-told {t} {bs} k q et eb =
-        let l : length (take n (drop 5 s)) ≡ n = length-take-le n (drop 5 s) (rw length-drop q) in
-        told-some (begun ∙ rw (upTo-yes n (drop 5 s) 48 k (rw length-drop q), et, shown-filled (take n (drop 5 s)) (48 - n) n bs l eb, drop-drop n 5 s)) (omega arith)
-
-    pub pair-fits : {t : ℕ} {bs : Bytes} → n ≤ 48 → n ≤ length s - 5 → bs ≡ take n (drop 5 s) ++ replicate (48 - n) 0
-        → FitPair (record { transport = record { 0 = t }; addr = record { len = n; bytes = bs } })
-    pair-fits {bs = bs} k q eb =
-        record { addr = record { kept = kept-filled (take n (drop 5 s)) 48 n bs (length-take-le n (drop 5 s) (rw length-drop q)) k eb } }
+    pub pair-told : n ≤ 48 → n ≤ length s - 5 → Spelt s true n
+    unfolding pairHere
+    pair-told k q = record {
+      is = begun ∙ rw (upTo-yes n (drop 5 s) 48 k (rw length-drop q), drop-drop n 5 s, e);
+      stands = λ z. record { small = rw (← e) k; room = rw (← e) (omega (arith, h, q)) };
+      size = λ z. e;
+    }
 
 -- ---- a message: length 2, bytes
 module _ (s : Bytes) where

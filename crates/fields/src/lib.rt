@@ -1,7 +1,6 @@
 // The fields of a record. Each reader is handed the rest of the record from the field's first byte, and answers whether the field is there, and its value (blank where it is not).
 use memory::read::get_be;
 use memory::read::get_byte;
-use memory::read::take_48;
 use memory::read::take_128;
 use node_addr::Addr;
 use node_addr::Digest;
@@ -11,6 +10,7 @@ use node_addr::Pair;
 use node_addr::TransportId;
 use node_addr::place::load_digest;
 use node_addr::place::load_node;
+use node_addr::place::load_spelt;
 ghost use mathlib.Core.Path.{_≡_};
 ghost use mathlib.Core.Bool.{false};
 ghost use mathlib.Core.List.{[]};
@@ -19,7 +19,7 @@ ghost use lib.ListN.{length, take, drop, replicate};
 ghost use Rattle.rules.specs.Field.{more, number, peer, lease, digest, flag, pair, message};
 ghost use Rattle.node_addr.specs.View.{viewPair, viewMessage, FitPair, FitMessage, blankPair, blankMessage};
 ghost use Rattle.fields.specs.Told.{Told, below};
-ghost use Rattle.fields.specs.Field.{noPair, noMessage, spanOf, FitSpan};
+ghost use Rattle.fields.specs.Field.{noPair, noMessage, Spelt, spanOf, FitSpan};
 
 pub struct ReadPeer {
     pub ok: bool,
@@ -228,30 +228,34 @@ fn no_pair() -> ReadPair
     }
 }
 
-// A transport, a length of at most 48, and an address of so many bytes.
+// A transport, a length of at most 48, and an address of so many bytes, which stay where they stand.
+pub fn pair_span(rest: &[u8]) -> ReadSpan
+    ensures { λ r. ⌜ Spelt (now (rest .entry)) (r .ok) (r .len) ⌝ }
+{
+    if rest.len() < 5 {
+        return ReadSpan { ok: false, len: 0 };
+    }
+    let n = get_byte(rest, 4) as usize;
+    if 48 < n {
+        return ReadSpan { ok: false, len: 0 };
+    }
+    if rest.len() - 5 < n {
+        return ReadSpan { ok: false, len: 0 };
+    }
+    ReadSpan { ok: true, len: n }
+}
+
+// The same, by value.
 pub fn read_pair(rest: &[u8]) -> ReadPair
     ensures { λ r. ⌜ Told (viewPair blankPair) (pair (now (rest .entry))) (r .ok) (viewPair (r .value)) (5 + r .value .addr .len) (now (rest .entry)) ⌝ }
     ensures { λ r. ⌜ FitPair (r .value) ⌝ }
 {
-    if rest.len() < 5 {
+    let w = pair_span(rest);
+    if !w.ok {
         return no_pair();
     }
-    let n = get_byte(rest, 4) as usize;
-    if 48 < n {
-        return no_pair();
-    }
-    if rest.len() - 5 < n {
-        return no_pair();
-    }
-    let t = get_be(rest, 0, 4) as u32;
-    let b = take_48(rest, 5, n);
-    ReadPair {
-        ok: true,
-        value: Pair {
-            transport: TransportId(t),
-            addr: Addr { len: n, bytes: b },
-        },
-    }
+    let p = load_spelt(rest, 0);
+    ReadPair { ok: true, value: p }
 }
 
 fn no_message() -> ReadMessage

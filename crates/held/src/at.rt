@@ -10,11 +10,14 @@ use node_addr::place::load_digest;
 use node_addr::place::load_node;
 use node_addr::place::load_pair;
 use node_addr::place::pair_here;
+use node_addr::place::pair_stands;
 ghost use mathlib.Core.Path.{_≡_};
 ghost use Prim.Native.Nat.{_<_};
+ghost use lib.ListN.{drop};
 ghost use Rattle.rules.specs.Base.{is};
 ghost use Rattle.rules.specs.Data.{samePair};
 ghost use Rattle.node_addr.specs.View.{viewPair, FitPair};
+ghost use Rattle.node_addr.specs.Place.{pairHere, PairIn};
 ghost use Rattle.held.specs.View.{FitRec, FitHeld, viewRec, heldCount, nthHeld, lastHeard, setupOf};
 
 pub fn peer_at(s: &[u8], i: usize) -> NodeAddr
@@ -111,6 +114,16 @@ pub fn current_is(s: &[u8], i: usize, p: Pair) -> bool
     ensures { λ r. ⌜ r ≡ samePair (viewPair p) (nthHeld (now (s .entry)) i .current) ⌝ }
 {
     pair_here(s, i * 136 + 83, p)
+}
+
+// Whether the current pair is the one that stands in a record.
+pub fn current_stands(s: &[u8], i: usize, rec: &[u8], from: usize) -> bool
+    requires { ⌜ FitHeld (now s) ⌝ }
+    requires { ⌜ i < heldCount (now s) ⌝ }
+    requires { ⌜ PairIn (now rec) from ⌝ }
+    ensures { λ r. ⌜ r ≡ samePair (pairHere (drop from (now (rec .entry)))) (nthHeld (now (s .entry)) i .current) ⌝ }
+{
+    pair_stands(s, i * 136 + 83, rec, from)
 }
 
 // The i-th held peer.

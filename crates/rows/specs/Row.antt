@@ -1,5 +1,5 @@
 -- Readers in a row, made of readers that are each handed the rest of the record.
-use mathlib.Core.Path.{_≡_, refl}
+use mathlib.Core.Path.{_≡_, refl, _∙_}
 use mathlib.Core.Bool.{Bool, true, false, not}
 use mathlib.Core.Option.{Option, none, some}
 use mathlib.Core.List.{List, []}
@@ -7,14 +7,17 @@ use Prim.Native.Nat.{ℕ, _+_, _-_, _^_, _≤_, _<_}
 use native.Mathlib.Omega.{arith}
 use borrow.Author.Needs.{needs}
 use borrow.Author.Tests.{not-true, not-false}
-use lib.Seq.{drop-drop}
+use lib.Seq.{drop-drop, getD-drop}
 use lib.ListN.{length, take, drop, getD, length-drop}
 use mir.Syntax.{w64}
 use mir.Val.{Fits}
 use Rattle.rules.specs.Base.{if_then_else_, Bytes}
-use Rattle.rules.specs.Field.{Reader, code, message}
+use Rattle.rules.specs.Field.{Reader, code, pair, message}
 use Rattle.laws.specs.Parse.{rest-of}
 use Rattle.laws.specs.Follow.{Stepped, stepped-off, stepped-none, stepped-some}
+use Rattle.rules.specs.Data.{Pair}
+use Rattle.node_addr.specs.Place.{pairHere, PairIn}
+use Rattle.fields.specs.Field.{Spelt}
 use Rattle.fields.specs.Told.{Told, told-yes, told-no, told-room, below, code-is}
 
 -- ---- a reader of a part, made one that passes ok and the place on
@@ -34,6 +37,27 @@ pub stepped-fits : {A : Type 0} {b : A} {o : Option (A × Bytes)} {ok : Bool} {v
 stepped-fits {ok = ok} at s t q r l = let m = rw length-drop at (rw rest-of at (told-room t (not-false ok q))) in omega arith
 
 pub ruleset stepping = (needs, stepped-off, stepped-no, stepped-yes, stepped-fits)
+
+-- a pair that stays where it stands
+module _ {at : ℕ} {s : Bytes} {ok′ : Bool} {n : ℕ} (w : Spelt (take (length s - at) (drop at s)) ok′ n) (r : at ≤ length s) where
+  here : Spelt (drop at s) ok′ n
+  here = rw rest-of at w
+
+  pub past-no : {ok : Bool} {v : Pair} → not ok ≡ false → not ok′ ≡ true → Stepped pair ok at s false v at
+  past-no h q = stepped-none h r (rw (not-true ok′ q) at (here .is))
+
+  pub past-in : not ok′ ≡ false → PairIn s at
+  past-in q =
+      let i = here .stands (not-false ok′ q) in
+      let e = getD-drop at s 4 0 in
+      record { small = rw e at (i .small); room = let m = rw (e, length-drop) at (i .room) in omega (arith, m, r) }
+
+  pub past-yes : {ok : Bool} → not ok ≡ false → not ok′ ≡ false → Stepped pair ok at s true (pairHere (drop at s)) (at + (5 + n))
+  past-yes h q =
+      let z = not-false ok′ q in
+      let i = past-in q in
+      let e = here .size z ∙ getD-drop at s 4 0 in
+      stepped-some (5 + n) h (omega (arith, i .room, e)) (rw z at (here .is))
 
 -- a message that stays where it stands
 module _ (at n : ℕ) (s : Bytes) {ok′ : Bool}

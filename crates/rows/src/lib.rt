@@ -1,6 +1,7 @@
 // Readers in a row: each is told whether all went well so far and where its field begins, hands the rest of the record to the field's reader, and passes both on.
 use fields::Span;
 use fields::message_span;
+use fields::pair_span;
 use fields::read_byte;
 use fields::read_code;
 use fields::read_digest;
@@ -15,13 +16,14 @@ use node_addr::Message;
 use node_addr::NodeAddr;
 use node_addr::Pair;
 ghost use mathlib.Core.Path.{_≡_};
-ghost use mathlib.Core.Bool.{_&&_};
+ghost use mathlib.Core.Bool.{true, _&&_};
 ghost use Prim.Native.Nat.{_+_, _≤_, _<_};
 ghost use lib.Dec.{eqb};
 ghost use lib.ListN.{length, take, drop};
 ghost use Rattle.rules.specs.Field.{number, peer, lease, digest, flag, pair, message};
 ghost use Rattle.laws.specs.Follow.{Stepped};
 ghost use Rattle.node_addr.specs.View.{viewPair, viewMessage, FitPair, FitMessage};
+ghost use Rattle.node_addr.specs.Place.{pairHere, PairIn};
 ghost use Rattle.fields.specs.Told.{below};
 ghost use Rattle.fields.specs.Field.{spanOf, FitSpan};
 
@@ -70,6 +72,11 @@ pub struct PairAt {
 pub struct MessageAt {
     pub ok: bool,
     pub value: Message,
+    pub at: usize,
+}
+
+pub struct PastAt {
+    pub ok: bool,
     pub at: usize,
 }
 
@@ -303,6 +310,26 @@ pub fn pair_at(s: &[u8], ok: bool, at: usize) -> PairAt
     PairAt {
         ok: true,
         value: value,
+        at: at + (5 + n),
+    }
+}
+
+// A pair, which stays where it stands.
+pub fn pair_past(s: &[u8], ok: bool, at: usize) -> PastAt
+    requires { ⌜ at ≤ length (now s) ⌝ }
+    ensures { λ r. ⌜ Stepped pair ok at (now (s .entry)) (r .ok) (pairHere (drop at (now (s .entry)))) (r .at) ⌝ }
+    ensures { λ r. ⌜ (r .ok ≡ true → PairIn (now (s .entry)) at) ⌝ }
+{
+    let w = pair_span(&s[at..]);
+    let n = w.len;
+    if !ok {
+        return PastAt { ok: false, at: at };
+    }
+    if !w.ok {
+        return PastAt { ok: false, at: at };
+    }
+    PastAt {
+        ok: true,
         at: at + (5 + n),
     }
 }

@@ -5,16 +5,19 @@ use node_addr::Pair;
 use rows::code_at;
 use rows::flag_at;
 use rows::pair_at;
+use rows::pair_past;
 use rows::peer_at;
 use rows::whole;
 use rows::word_at;
 ghost use mathlib.Core.Path.{_≡_};
+ghost use mathlib.Core.Bool.{true};
 ghost use Prim.Native.Nat.{ℕ, _≤_, _<_};
-ghost use lib.ListN.{length, getD};
+ghost use lib.ListN.{length, drop, getD};
 ghost use Rattle.rules.specs.Data.{Call, Live, Why};
 ghost use Rattle.rules.specs.Field.{whys, states};
 ghost use Rattle.rules.specs.Record.{linkFields, msg2Fields, restartedFields, heardFields, removeFields, pathFields, releaseFields};
 ghost use Rattle.node_addr.specs.View.{viewPair, FitPair};
+ghost use Rattle.node_addr.specs.Place.{pairHere, PairIn};
 ghost use Rattle.calls.specs.Read.{Reads};
 
 pub struct LinkFields {
@@ -38,7 +41,7 @@ pub struct RestartedFields {
 pub struct HeardFields {
     pub ok: bool,
     pub peer: NodeAddr,
-    pub pair: Pair,
+    pub from: usize,
 }
 
 pub struct RemoveFields {
@@ -111,21 +114,20 @@ pub fn restarted_fields(s: &[u8], at: usize) -> RestartedFields
     }
 }
 
-// 10 heard: peer, pair.
+// 10 heard: peer, pair, which stays where it stands, from `from` on.
 pub fn heard_fields(s: &[u8], at: usize) -> HeardFields
     requires { ⌜ at ≤ length (now s) ⌝ }
-    ensures { λ r. ⌜ Reads heardFields at (now (s .entry)) (r .ok) (Call.Heard (r .peer .0) (viewPair (r .pair))) ⌝ }
-    ensures { λ r. ⌜ FitPair (r .pair) ⌝ }
+    ensures { λ r. ⌜ Reads heardFields at (now (s .entry)) (r .ok) (Call.Heard (r .peer .0) (pairHere (drop (r .from) (now (s .entry))))) ⌝ }
+    ensures { λ r. ⌜ (r .ok ≡ true → PairIn (now (s .entry)) (r .from)) ⌝ }
 {
     let p = peer_at(s, true, at);
-    let f = pair_at(s, p.ok, p.at);
+    let f = pair_past(s, p.ok, p.at);
     let good = whole(s, f.ok, f.at);
     let peer = p.value;
-    let pair = f.value;
     HeardFields {
         ok: good,
         peer: peer,
-        pair: pair,
+        from: p.at,
     }
 }
 
