@@ -39,7 +39,7 @@ stepped-fits {ok = ok} at s t q r l = let m = rw length-drop at (rw rest-of at (
 pub ruleset stepping = (needs, stepped-off, stepped-no, stepped-yes, stepped-fits)
 
 -- a pair that stays where it stands
-module _ {at : ℕ} {s : Bytes} {ok′ : Bool} {n : ℕ} (w : Spelt (take (length s - at) (drop at s)) ok′ n) (r : at ≤ length s) where
+module _ (at : ℕ) (s : Bytes) {ok′ : Bool} {n : ℕ} (w : Spelt (take (length s - at) (drop at s)) ok′ n) (r : at ≤ length s) where
   here : Spelt (drop at s) ok′ n
   here = rw rest-of at w
 
@@ -52,12 +52,11 @@ module _ {at : ℕ} {s : Bytes} {ok′ : Bool} {n : ℕ} (w : Spelt (take (lengt
       let e = getD-drop at s 4 0 in
       record { small = rw e at (i .small); room = let m = rw (e, length-drop) at (i .room) in omega (arith, m, r) }
 
+  pub past-room : not ok′ ≡ false → at + (5 + n) ≤ length s
+  past-room q = omega (arith, past-in q .room, here .size (not-false ok′ q) ∙ getD-drop at s 4 0)
+
   pub past-yes : {ok : Bool} → not ok ≡ false → not ok′ ≡ false → Stepped pair ok at s true (pairHere (drop at s)) (at + (5 + n))
-  past-yes h q =
-      let z = not-false ok′ q in
-      let i = past-in q in
-      let e = here .size z ∙ getD-drop at s 4 0 in
-      stepped-some (5 + n) h (omega (arith, i .room, e)) (rw z at (here .is))
+  past-yes h q = stepped-some (5 + n) h (past-room q) (rw (not-false ok′ q) at (here .is))
 
 -- a message that stays where it stands
 module _ (at n : ℕ) (s : Bytes) {ok′ : Bool}
