@@ -37,9 +37,9 @@ pub reads-end : {fields : Reader Call} {at : ℕ} {s : Bytes} {ok : Bool} {at′
     → Follows (fields (drop at s)) (give c) ok at′ s → at′ ≤ length s → good ≡ ok && eqb at′ (length s) → Reads fields at s good c
 reads-end {good = good} f h e = record { is = follows-whole good f h e }
 
-pub whole-ok : {good ok b : Bool} → good ≡ ok && b → good ≡ true → ok ≡ true
-whole-ok {ok = true} e q = refl
-whole-ok {ok = false} e q = cc
+pub whole-ok : {good : Bool} (ok b : Bool) → good ≡ ok && b → good ≡ true → ok ≡ true
+whole-ok true b e q = refl
+whole-ok false b e q = cc
 
 -- the fields of a kind
 abbrev pub kindFields : ℕ → Reader Call

@@ -2,16 +2,15 @@
 use codes::Transition;
 use node_addr::Found;
 use node_addr::NodeAddr;
-use node_addr::Pair;
 use output::put::put_reset;
-use state_held::current_is;
 use state_held::find_held;
-use state_held::hear_peer;
-use state_held::restart_peer;
+use state_held::hear_at;
+use state_held::restart_at;
+ghost use lib.ListN.{drop};
 ghost use Rattle.rules.specs.Std.{Ascending};
 ghost use Rattle.rules.specs.Gates.{earlierMemory};
 ghost use Rattle.rules.specs.Settle as rule;
-ghost use Rattle.node_addr.specs.View.{FitPair, viewPair};
+ghost use Rattle.node_addr.specs.Place.{pairHere, PairIn};
 ghost use Rattle.state.specs.View.{viewTable, FitTable};
 ghost use Rattle.steps.specs.Did.{Space, Did};
 
@@ -24,30 +23,30 @@ pub fn restarted(t: &mut [u8], out: &mut [u8], at: usize, peer: NodeAddr, epoch:
     let Found::At(i) = find_held(t, peer) else {
         return at;
     };
-    restart_peer(t, peer, epoch);
+    restart_at(t, i, epoch);
     put_reset(out, at, peer, Transition::Restarted)
 }
 
-// 10: a frame of a peer came from a pair. A held one is heard, its failures are forgotten, and a differing pair is taken as current.
+// 10: a frame of a peer came from a pair, which stands in a record. A held one is heard, its failures are forgotten, and a differing pair is taken as current.
 pub fn heard(
     t: &mut [u8],
     out: &mut [u8],
     at: usize,
     peer: NodeAddr,
-    from: Pair,
+    rec: &[u8],
+    from: usize,
     clock: u64,
 ) -> usize
     requires { ⌜ FitTable (now t) ⌝ }
     requires { ⌜ Ascending earlierMemory (viewTable (now t) .gates) ⌝ }
-    requires { ⌜ FitPair from ⌝ }
-    requires { ⌜ Space (now out) at ((rule.heard clock (peer .0) (viewPair from) (viewTable (now t))) .outs) ⌝ }
-    ensures { λ r. ⌜ Did (now (out .entry)) at (now (t .exit)) (now (out .exit)) r (rule.heard clock (peer .0) (viewPair from) (viewTable (now (t .entry)))) ⌝ }
+    requires { ⌜ PairIn (now rec) from ⌝ }
+    requires { ⌜ Space (now out) at ((rule.heard clock (peer .0) (pairHere (drop from (now rec))) (viewTable (now t))) .outs) ⌝ }
+    ensures { λ r. ⌜ Did (now (out .entry)) at (now (t .exit)) (now (out .exit)) r (rule.heard clock (peer .0) (pairHere (drop from (now (rec .entry)))) (viewTable (now (t .entry)))) ⌝ }
 {
     let Found::At(i) = find_held(t, peer) else {
         return at;
     };
-    let stays = current_is(t, i, from);
-    hear_peer(t, peer, clock, from);
+    let stays = hear_at(t, i, clock, rec, from);
     state_gates::heard(t, peer);
     if stays {
         return at;

@@ -7,13 +7,14 @@ use node_addr::NodeAddr;
 use node_addr::Pair;
 ghost use mathlib.Core.Path.{_≡_};
 ghost use Prim.Native.Nat.{_<_};
-ghost use lib.ListN.{length};
+ghost use lib.ListN.{length, drop, set};
 ghost use Rattle.rules.specs.Base.{is, alter, without};
 ghost use Rattle.rules.specs.Data.{samePair};
 ghost use Rattle.rules.specs.Std.{insert};
 ghost use Rattle.rules.specs.Settle as settle;
 ghost use Rattle.laws.specs.Scan.{scan};
 ghost use Rattle.node_addr.specs.View.{FitPair, viewPair, Finds};
+ghost use Rattle.node_addr.specs.Place.{pairHere, PairIn};
 ghost use Rattle.held.specs.View.{FitRec, viewRec, lastHeard, setupOf};
 ghost use Rattle.state.specs.View.{viewTable, FitTable, Told, nthHeld};
 
@@ -136,21 +137,24 @@ pub fn drop_held(t: &mut [u8], peer: NodeAddr)
     held::map::drop_held(&mut t[20836..25189], peer);
 }
 
-// A peer restarted: another epoch.
-pub fn restart_peer(t: &mut [u8], peer: NodeAddr, epoch: u64)
+// The i-th held peer restarted: another epoch.
+pub fn restart_at(t: &mut [u8], i: usize, epoch: u64)
     requires { ⌜ FitTable (now t) ⌝ }
-    ensures { λ r. ⌜ Told (now (t .exit)) (settle.withHeld (alter (settle.named (peer .0)) (settle.withEpoch epoch) (viewTable (now (t .entry)) .held)) (viewTable (now (t .entry)))) ⌝ }
+    requires { ⌜ i < length (viewTable (now t) .held) ⌝ }
+    ensures { λ r. ⌜ Told (now (t .exit)) (settle.withHeld (set (viewTable (now (t .entry)) .held) i (settle.withEpoch epoch (nthHeld (viewTable (now (t .entry))) i))) (viewTable (now (t .entry)))) ⌝ }
 {
-    held::restarted::restart_peer(&mut t[20836..25189], peer, epoch);
+    held::restarted::set_epoch(&mut t[20836..25189], i, epoch);
 }
 
-// A frame of a peer was heard from a pair.
-pub fn hear_peer(t: &mut [u8], peer: NodeAddr, clock: u64, from: Pair)
+// A frame of the i-th held peer was heard, from a pair that stands in a record. Whether the pair was the current one already.
+pub fn hear_at(t: &mut [u8], i: usize, clock: u64, rec: &[u8], from: usize) -> bool
     requires { ⌜ FitTable (now t) ⌝ }
-    requires { ⌜ FitPair from ⌝ }
-    ensures { λ r. ⌜ Told (now (t .exit)) (settle.withHeld (alter (settle.named (peer .0)) (settle.heardFrom clock (viewPair from)) (viewTable (now (t .entry)) .held)) (viewTable (now (t .entry)))) ⌝ }
+    requires { ⌜ i < length (viewTable (now t) .held) ⌝ }
+    requires { ⌜ PairIn (now rec) from ⌝ }
+    ensures { λ r. ⌜ Told (now (t .exit)) (settle.withHeld (set (viewTable (now (t .entry)) .held) i (settle.heardFrom clock (pairHere (drop from (now (rec .entry)))) (nthHeld (viewTable (now (t .entry))) i))) (viewTable (now (t .entry)))) ⌝ }
+    ensures { λ r. ⌜ r ≡ samePair (pairHere (drop from (now (rec .entry)))) (nthHeld (viewTable (now (t .entry))) i .current) ⌝ }
 {
-    held::heard::hear_peer(&mut t[20836..25189], peer, clock, from);
+    held::heard::hear_at(&mut t[20836..25189], i, clock, rec, from)
 }
 
 // A peer moves onto another link.

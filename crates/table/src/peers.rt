@@ -34,8 +34,8 @@ pub fn heard_call(t: &mut [u8], out: &mut [u8], s: &[u8], at: usize, clock: u64)
         return Answer { number: 3, len: 0 };
     }
     let peer = r.peer;
-    let pair = r.pair;
-    let n = heard(t, out, 0, peer, pair, clock);
+    let from = r.from;
+    let n = heard(t, out, 0, peer, s, from, clock);
     Answer { number: 0, len: n }
 }
 

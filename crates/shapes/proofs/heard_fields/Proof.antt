@@ -9,9 +9,9 @@ use Rattle.shapes.proofs.heard_fields.Tie as tie
 returns : tie.Need-returns
 unfolding heardFields
 returns c = (
-  reads-end (follows-step _ (follows-step _ (follows-start heardFields true _ _) (⟨peer-at⟩ .ensures)) (⟨pair-past⟩ .ensures .0)) (⟨pair-past⟩ .ensures .0 .room) (⟨whole⟩ .ensures),
-  λ e. ⟨pair-past⟩ .ensures .1 (whole-ok (⟨whole⟩ .ensures) e),
+  reads-end (follows-step _ (follows-step _ (follows-start heardFields true _ _) (c .before .before .before .peer-at .ensures)) (c .before .before .pair-past .ensures .0)) (c .before .before .pair-past .ensures .0 .room) (c .before .whole .ensures),
+  λ e. c .before .before .pair-past .ensures .1 (whole-ok _ _ (c .before .whole .ensures) e),
 )
 
 pub heard-fields-spec : {M : Type 1} → statement M
-heard-fields-spec = tie.close (tie.spec NEEDS)
+heard-fields-spec = tie.close (tie.spec (λ c κs. search needs) (λ c κs. search needs) (λ c κs. search needs) returns)

@@ -1,0 +1,20 @@
+-- `state_held::hear_at` meets its contract.
+use lib.Dec.{lit≤}
+use Rattle.state.specs.View.{viewTable}
+use Rattle.state.specs.Told.{part-end, held-in, told-held}
+use borrow.Author.Needs.{needs}
+use Rattle.state_held.proofs.hear_at.Statement.{statement}
+use Rattle.state_held.proofs.hear_at.Tie as tie
+
+part-hear-at-end : tie.Need-part-hear-at-end
+part-hear-at-end c = part-end (⟨pre⟩ .0) (lit≤ tt)
+
+hear-at-requires : tie.Need-hear-at-requires
+hear-at-requires c κs = (⟨pre⟩ .0 .held, (held-in (⟨pre⟩ .0) (⟨pre⟩ .1 .0), ⟨pre⟩ .1 .1))
+
+returns : tie.Need-returns
+unfolding viewTable
+returns c = (told-held (⟨pre⟩ .0) (⟨hear-at⟩ .ensures .0) (⟨hear-at⟩ .ensures .1 .0), ⟨hear-at⟩ .ensures .1 .1)
+
+pub hear-at-spec : {M : Type 1} → statement M
+hear-at-spec = tie.close (tie.spec NEEDS)
