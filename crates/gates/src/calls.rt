@@ -8,7 +8,7 @@ use judged::gate_blank;
 use memories::Liveness;
 use memories::Source;
 use memories::Verdict;
-use memory_entry::cell::get_flag;
+use memory::flag::get_flag;
 use memory_entry::load::get_memory;
 use node_addr::Digest;
 use node_addr::Found;

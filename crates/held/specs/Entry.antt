@@ -5,7 +5,7 @@ use mathlib.Core.List.{List, [], _∷_, _++_, map, append-assoc, append-nil}
 use Prim.Native.Nat.{ℕ, _+_, _*_, _≤_, _<_}
 use native.Mathlib.Nat.{add-zero}
 use native.Mathlib.Omega.{arith}
-use lib.Dec.{eqb, lit≤}
+use lib.Dec.{lit≤}
 use lib.Seq.{length-take-le}
 use lib.ListN.{length, take, drop, getD, replicate, length-drop}
 use mir.Syntax.{w32, w64}
@@ -19,7 +19,6 @@ use Rattle.laws.specs.Cell.{num, flagOf, Optional, flag-shows, flag-code}
 use Rattle.laws.specs.Chunk.{chunks, joined}
 use Rattle.laws.specs.Fields.{cuts, cuts-at, cuts-joined, sum}
 use Rattle.node_addr.specs.View.{FitPair, viewPair}
-use Rattle.node_addr.specs.Alike.{byte-here}
 use Rattle.node_addr.specs.Place.{pairOf, pairCell, pair-cell-length, pair-cell-fit, pair-cell-shows}
 use Rattle.held.specs.declared.record.Held as held
 use Rattle.held.specs.View.{heldWs, heldFrom, heldOf, FitCells, FitHeldCell, FitHeld, heldCount, noHeld, nthHeld, viewRec, FitRec}
@@ -104,10 +103,6 @@ held-bytes h f b =
       flag-shows (h .answered),
       pair-cell-shows (f .current) (b .transport),
     )
-
--- ---- a flag, where it stands
-pub flag-here : (s : Bytes) (at : ℕ) → eqb (getD s at 0) 1 ≡ flagOf (take 1 (drop at s))
-flag-here s at = ap (λ (x : ℕ). eqb x 1) (byte-here s at)
 
 -- ---- the cells of the i-th held peer, where they stand
 pub cells-here : (s : Bytes) (i : ℕ) → FitHeld s → i < heldCount s → cuts (i * 136) 0 heldWs s ≡ cuts 0 0 heldWs (getD (chunks 136 32 s) i [])

@@ -1,6 +1,6 @@
 // The i-th held peer: single cells read where they stand, and the whole.
-use crate::cell::get_flag;
 use crate::record::Held;
+use memory::flag::get_flag;
 use memory::read::get_be;
 use node_addr::Digest;
 use node_addr::LinkNo;

@@ -1,6 +1,6 @@
 // Parts of the i-th held peer, written in place.
 use crate::at::current_is;
-use crate::cell::put_flag;
+use memory::flag::put_flag;
 use memory::write::put_be;
 use memory::write::put_byte;
 use node_addr::LinkNo;

@@ -1,6 +1,6 @@
 // The bytes of a held peer, written at a place.
-use crate::cell::put_flag;
 use crate::record::Held;
+use memory::flag::put_flag;
 use memory::write::put_be;
 use node_addr::place::put_digest;
 use node_addr::place::put_node;

@@ -1,6 +1,5 @@
 // Peers held, in lent memory: 32 entries of 136 bytes in the order of their addresses, and then their count.
 pub mod at;
-mod cell;
 mod change;
 mod entry;
 pub mod heard;

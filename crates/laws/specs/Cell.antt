@@ -2,20 +2,18 @@
 use mathlib.Core.Path.{_≡_, refl, sym, ap, _∙_}
 use mathlib.Core.Bool.{Bool, true, false}
 use mathlib.Core.Option.{Option, none, some}
-use mathlib.Core.List.{List, [], _∷_, _++_}
-use Prim.Native.Nat.{ℕ, zero, suc, _+_, _-_, _*_, _^_, _≤_, _<_}
-use native.Mathlib.Nat.{not-suc-le-zero, le-of-suc-le-suc}
+use mathlib.Core.List.{[], _∷_}
+use Prim.Native.Nat.{ℕ, zero, suc, _+_, _*_, _≤_, _<_}
+use native.Mathlib.Nat.{add-zero}
 use native.Mathlib.Omega.{arith}
-use lib.Dec.{eqb, lit≤, lit<}
-use lib.Seq.{take-all}
-use lib.ListN.{length, take, drop, getD, replicate, length-take, length-drop, take-append-drop}
-use borrow.Author.Tests.{eq-eqb, ne-eqb}
+use lib.Dec.{eqb, lit<}
+use lib.Seq.{getD-take, getD-drop}
+use lib.ListN.{length, take, drop, getD, replicate, length-take, take-append-drop}
 use Rattle.rules.specs.Base.{if_then_else_, one, Bytes, All}
 use Rattle.rules.specs.Bounds.{IsByte}
-use Rattle.rules.specs.Field.{more, digits}
+use Rattle.rules.specs.Field.{more}
 use Rattle.laws.specs.Shift.{Kept}
 use Rattle.laws.specs.Buffer.{Any}
-use Rattle.laws.specs.Round.{more-digits}
 
 -- ---- what cells show
 
@@ -39,6 +37,13 @@ optionNum f s = if flagOf f then some (num s) else none
 
 abbrev pub optionBytes : Bytes → Bytes → Option Bytes
 optionBytes f s = if flagOf f then some s else none
+
+-- a byte where it stands, and a flag
+pub byte-here : (s : Bytes) (at : ℕ) → getD s at 0 ≡ byteOf (take 1 (drop at s))
+byte-here s at = sym (getD-take 1 (drop at s) 0 0 (lit< tt) ∙ getD-drop at s 0 0 ∙ ap (λ (i : ℕ). getD s i 0) (add-zero at))
+
+pub flag-here : (s : Bytes) (at : ℕ) → eqb (getD s at 0) 1 ≡ flagOf (take 1 (drop at s))
+flag-here s at = ap (λ (x : ℕ). eqb x 1) (byte-here s at)
 
 -- ---- canonical cells
 

@@ -1,5 +1,5 @@
 -- Words of memory: numbers with the least significant byte first, which a machine loads and stores as they stand; and runs of bytes compared by them.
-use Prim.Native.Nat.{ℕ, zero, suc, _+_, _-_, _*_, _/_, _%_, _^_, _≤_, _<_}
+use Prim.Native.Nat.{ℕ, zero, suc, _+_, _*_, _/_, _%_, _^_, _≤_, _<_}
 use mathlib.Core.Path.{_≡_, refl, sym, ap, _∙_}
 use mathlib.Core.Bool.{Bool, true, false}
 use mathlib.Core.List.{List, [], _∷_, _++_, append-nil, append-assoc, reverse, reverse-cons}
@@ -15,8 +15,9 @@ use lib.ListN.{length, take, drop, getD, length-drop}
 use Rattle.rules.specs.Base.{same}
 use Rattle.rules.specs.Field.{more, digits}
 use Rattle.laws.specs.Beside.{same-refl, same-yes, same-no}
-use Rattle.laws.specs.Words.{Octets, octets-run, same-append, run-rest}
+use Rattle.laws.specs.Words.{Octets, octets-run, same-append}
 use Rattle.laws.specs.Splice.{Wrote}
+use Rattle.laws.specs.Part.{part-of}
 
 -- the number that the bytes spell, the least significant first
 unfoldable pub little : List ℕ → ℕ
@@ -147,7 +148,7 @@ fronts-start h g = record { within = omega arith; room = h; room′ = g; same-so
 
 -- a part of a run
 run-part : (k n : ℕ) (s : List ℕ) (at i : ℕ) → i + k ≤ n → take k (drop i (take n (drop at s))) ≡ take k (drop (at + i) s)
-run-part k n s at i h = rw (run-rest n s at i) (take-take k (n - i) (drop (at + i) s) (omega arith))
+run-part k n s at i h = part-of i k n (drop at s) h ∙ rw drop-drop
 
 module _ {n : ℕ} {s : List ℕ} {at : ℕ} {t : List ℕ} {from i : ℕ} (a : Fronts n s at t from i) (k : ℕ) (f : (j : ℕ) → Fits w8 (getD s j 0)) (g : (j : ℕ) → Fits w8 (getD t j 0)) where
   wide : (s : List ℕ) (at j : ℕ) → at + n ≤ length s → j + k ≤ n → length (take k (drop (at + j) s)) ≡ k

@@ -4,9 +4,16 @@ use mathlib.Core.Path.{_≡_, refl, sym, ap, _∙_}
 use mathlib.Core.List.{List, [], _∷_, _++_, append-assoc}
 use native.Mathlib.Nat.{not-suc-le-zero, le-of-suc-le-suc, add-zero, add-assoc}
 use native.Mathlib.Omega.{arith}
-use lib.Seq.{take-at, drop-at, drop-drop, take-append-le, drop-append-le, take-append-add, drop-append-add, length-take-le, getD-drop}
+use lib.Seq.{take-at, drop-at, drop-drop, take-append-le, drop-append-le, take-append-add, drop-append-add, take-take, length-take-le, getD-drop}
 use lib.ListN.{length, take, drop, getD, set, replicate, length-append, length-take, length-drop, take-append-drop}
 use Rattle.laws.specs.Splice.{splice, length-splice}
+
+-- a part of a part
+pub part-of : (o w m : ℕ) (u : List ℕ) → o + w ≤ m → take w (drop o (take m u)) ≡ take w (drop o u)
+part-of zero w m u h = take-take w m u (omega arith)
+part-of (suc o) w zero u h = absurd (omega arith)
+part-of (suc o) w (suc m) [] h = refl
+part-of (suc o) w (suc m) (x ∷ u) h = part-of o w m u (omega arith)
 
 -- ---- a part of a list after a splice: itself, before it, after it
 pub part-append : (o w : ℕ) (a x : List ℕ) → o + w ≤ length a → take w (drop o (a ++ x)) ≡ take w (drop o a)

@@ -1,15 +1,14 @@
 -- Runs of bytes compared by the numbers that they spell.
-use Prim.Native.Nat.{ℕ, zero, suc, _+_, _-_, _*_, _≤_, _<_}
+use Prim.Native.Nat.{ℕ, zero, suc, _+_, _*_, _≤_, _<_}
 use mathlib.Core.Path.{_≡_, refl, sym, _∙_}
 use mathlib.Core.Bool.{Bool, true, false, _&&_}
 use mathlib.Core.List.{List, [], _∷_, _++_}
-use native.Mathlib.Nat.{sub-zero, zero-sub, suc-sub-suc}
 use native.Mathlib.Omega.{arith}
 use borrow.Author.Tests.{eq-eqb, ne-eqb, lt-ltb, le-ltb, eqb-true, eqb-false, ltb-true, ltb-false}
 use mir.Syntax.{w8}
 use mir.Val.{Fits}
 use lib.Dec.{eqb, ltb}
-use lib.Seq.{drop-drop, take-add, length-take-le, take-nil}
+use lib.Seq.{drop-drop, take-add, length-take-le}
 use lib.ListN.{length, take, drop, getD, length-drop}
 use Rattle.rules.specs.Base.{same, All, if_then_else_}
 use Rattle.rules.specs.Std.{before}
@@ -120,16 +119,6 @@ before-append (a ∷ xs) (b ∷ ys) us vs e = go (eqb a b) (before-append xs ys 
         → (if c then before (xs ++ us) (ys ++ vs) else ltb a b) ≡ (if (c && same xs ys) then before us vs else (if c then before xs ys else ltb a b))
     go true r = r
     go false r = refl
-
-drop-take : (i n : ℕ) (xs : List ℕ) → drop i (take n xs) ≡ take (n - i) (drop i xs)
-drop-take zero n xs = rw sub-zero
-drop-take (suc i) zero xs = rw zero-sub
-drop-take (suc i) (suc n) [] = rw suc-sub-suc (sym (take-nil (n - i)))
-drop-take (suc i) (suc n) (x ∷ xs) = rw suc-sub-suc (drop-take i n xs)
-
--- what is left of a run
-pub run-rest : (n : ℕ) (s : List ℕ) (at i : ℕ) → drop i (take n (drop at s)) ≡ take (n - i) (drop (at + i) s)
-run-rest n s at i = drop-take i n (drop at s) ∙ rw drop-drop
 
 -- two runs of two words each, in their order
 module _ (k : ℕ) (s : List ℕ) (at : ℕ) (t : List ℕ) (from : ℕ) (r : at + (k + k) ≤ length s) (r′ : from + (k + k) ≤ length t)

@@ -5,7 +5,7 @@ use mathlib.Core.List.{List, [], _∷_, _++_, map, append-assoc, append-nil}
 use Prim.Native.Nat.{ℕ, _+_, _*_, _≤_, _<_}
 use native.Mathlib.Nat.{add-zero}
 use native.Mathlib.Omega.{arith}
-use lib.Dec.{eqb, lit≤}
+use lib.Dec.{lit≤}
 use lib.Seq.{length-take-le, drop-drop}
 use lib.ListN.{length, take, drop, getD, replicate, length-drop}
 use mir.Syntax.{w32, w64}
@@ -21,7 +21,7 @@ use Rattle.laws.specs.Buffer.{kept-length}
 use Rattle.laws.specs.Chunk.{chunks, joined}
 use Rattle.laws.specs.Fields.{cuts, cuts-at, cuts-joined, sum}
 use Rattle.node_addr.specs.View.{FitMessage, viewMessage}
-use Rattle.node_addr.specs.Alike.{byte-here, part-of}
+use Rattle.node_addr.specs.Alike.{part-of}
 use Rattle.node_addr.specs.Place.{messageOf, MessageCell, messageCell, message-parts}
 use Rattle.node_addr.specs.declared.Message as message
 use Rattle.leg_entry.specs.declared.leg.Leg as leg
@@ -133,10 +133,6 @@ leg-bytes l f b =
       flag-shows (l .replaces),
       more-digits 8 (l .epoch) (b .epoch .fits),
     )
-
--- ---- a flag, where it stands
-pub flag-here : (s : Bytes) (at : ℕ) → eqb (getD s at 0) 1 ≡ flagOf (take 1 (drop at s))
-flag-here s at = ap (λ (x : ℕ). eqb x 1) (byte-here s at)
 
 -- ---- the cells of the i-th leg, where they stand
 pub cells-here : (s : Bytes) (i : ℕ) → FitLegs s → i < legCount s → cuts (i * 351) 0 legWs s ≡ cuts 0 0 legWs (getD (chunks 351 32 s) i [])

@@ -1,7 +1,7 @@
 // Single cells of the i-th leg, read where they stand.
-use crate::cell::get_flag;
 use crate::cell::get_len;
 use memory::compare::same_run;
+use memory::flag::get_flag;
 use memory::read::get_be;
 use node_addr::Digest;
 use node_addr::LinkNo;

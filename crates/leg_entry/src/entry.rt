@@ -1,7 +1,7 @@
 // A leg read from its entry, and written to it.
-use crate::cell::get_flag;
-use crate::cell::put_flag;
 use crate::leg::Leg;
+use memory::flag::get_flag;
+use memory::flag::put_flag;
 use memory::read::get_be;
 use memory::write::put_be;
 use node_addr::LinkNo;

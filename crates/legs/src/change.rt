@@ -1,6 +1,6 @@
 // Changes of the i-th leg, in place.
-use leg_entry::cell::put_flag;
 use leg_entry::leg::Again;
+use memory::flag::put_flag;
 use memory::read::get_be;
 use memory::read::get_byte;
 use memory::write::put_be;

@@ -1,5 +1,6 @@
-// Bytes in lent memory: numbers and runs read, written, compared and cleared where they stand.
+// Bytes in lent memory: numbers, flags and runs read, written, compared and cleared where they stand.
 pub mod compare;
+pub mod flag;
 pub mod read;
 pub mod word;
 pub mod write;

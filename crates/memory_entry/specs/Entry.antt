@@ -5,7 +5,7 @@ use mathlib.Core.List.{List, [], _∷_, _++_, map, append-assoc, append-nil}
 use Prim.Native.Nat.{ℕ, _+_, _*_, _≤_, _<_}
 use native.Mathlib.Nat.{add-zero}
 use native.Mathlib.Omega.{arith}
-use lib.Dec.{eqb, lit≤}
+use lib.Dec.{lit≤}
 use lib.Seq.{length-take-le, take-at, drop-at, take-all, getD-take, getD-drop}
 use lib.ListN.{length, take, drop, getD, replicate, length-drop, length-append}
 use mir.Syntax.{w64}
@@ -19,7 +19,6 @@ use Rattle.laws.specs.Cell.{num, flagOf, Optional, flag-shows, flag-code}
 use Rattle.laws.specs.Chunk.{chunks, chunk-size, joined}
 use Rattle.laws.specs.Fields.{cuts, cuts-spelt, length-joined, sum, field-at}
 use Rattle.laws.specs.Store.{Store, entries, entry-shows, entry-fits}
-use Rattle.node_addr.specs.Alike.{byte-here}
 use Rattle.node_addr.specs.declared.Digest.{Digest}
 use Rattle.memories.specs.declared.Replay.{Replay}
 use Rattle.memories.specs.declared.Replays.{Replays}
@@ -29,9 +28,6 @@ use Rattle.memories.specs.declared.Memory.{Memory}
 use Rattle.memories.specs.View.{optional, viewReplay, viewReplays, viewDigest, viewDigests, viewSilence, viewMemory, blankReplay, blankSilence, FitReplay, FitDigest, FitReplays, FitDigests, WideSilence, FitSilence, FitMemory}
 use Rattle.memory_entry.specs.Rows.{AnyBytes, part-at, cuts-part, row-size, row-store, row-shows}
 use Rattle.memory_entry.specs.View.{replayOf, digestOf, silenceWs, silenceFrom, silenceOf, SilenceCells, FitSilenceCell, entryWs, entryFrom, entryOf, FitCells, FitEntry, FitGates, gateCount, noMemory, memoryAt}
-
-pub flag-here : (s : Bytes) (at : ℕ) → eqb (getD s at 0) 1 ≡ flagOf (take 1 (drop at s))
-flag-here s at = ap (λ (b : ℕ). eqb b 1) (byte-here s at)
 
 -- ---- a replay and a digest at a place
 abbrev pub replayAt : Bytes → ℕ → Replay

@@ -1,4 +1,3 @@
 // What is remembered of a peer in lent memory: the entry of a memory, 634 bytes, read and written.
-pub mod cell;
 pub mod load;
 pub mod put;

@@ -1,5 +1,4 @@
 // A memory read from its entry.
-use crate::cell::get_flag;
 use memories::Digests;
 use memories::Memory;
 use memories::Replay;
@@ -8,6 +7,7 @@ use memories::Silence;
 use memories::blank_silence;
 use memories::no_digests;
 use memories::no_replays;
+use memory::flag::get_flag;
 use memory::read::get_be;
 use node_addr::place::load_digest;
 use node_addr::place::load_node;

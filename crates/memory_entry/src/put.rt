@@ -1,10 +1,10 @@
 // A memory written to its entry. A writer answers the place after what it wrote.
-use crate::cell::put_flag;
 use memories::Digests;
 use memories::Memory;
 use memories::Replay;
 use memories::Replays;
 use memories::Silence;
+use memory::flag::put_flag;
 use memory::write::put_be;
 use memory::write::put_byte;
 use node_addr::place::put_digest;

@@ -1,32 +1,20 @@
 -- Parts of parts, runs in two parts, and what a comparison of whole buffers says of what is in use.
 use mathlib.Core.Path.{_≡_, refl, sym, ap, _∙_}
 use mathlib.Core.Bool.{Bool, true, false, _&&_}
-use mathlib.Core.List.{[], _∷_}
-use Prim.Native.Nat.{ℕ, zero, suc, _+_, _≤_}
-use native.Mathlib.Nat.{add-zero}
+use Prim.Native.Nat.{ℕ, _+_, _≤_}
 use native.Mathlib.Omega.{arith}
 use borrow.Author.Tests.{eq-eqb, ne-eqb}
-use lib.Dec.{lit<}
-use lib.Seq.{take-add, drop-drop, getD-take, getD-drop, take-take, take-all}
-use lib.ListN.{length, take, drop, getD, take-append-drop, length-take, length-drop}
+use lib.Seq.{take-add, drop-drop, take-all}
+use lib.ListN.{length, take, drop, take-append-drop, length-take, length-drop}
 use Rattle.rules.specs.Base.{Bytes, same}
 use Rattle.rules.specs.Std.{before}
 use Rattle.rules.specs.Data.{Pair, samePair}
 use Rattle.laws.specs.Shift.{Kept}
+pub use Rattle.laws.specs.Part.{part-of}
+pub use Rattle.laws.specs.Cell.{byte-here}
 use Rattle.laws.specs.Buffer.{Any, kept-length}
 use Rattle.laws.specs.Words.{same-append}
 use Rattle.laws.specs.Beside.{same-yes, same-no, same-true, same-apart}
-
--- a part of a part
-pub part-of : (o w m : ℕ) (u : Bytes) → o + w ≤ m → take w (drop o (take m u)) ≡ take w (drop o u)
-part-of zero w m u h = take-take w m u (omega arith)
-part-of (suc o) w zero u h = absurd (omega arith)
-part-of (suc o) w (suc m) [] h = refl
-part-of (suc o) w (suc m) (x ∷ u) h = part-of o w m u (omega arith)
-
--- a byte is a part of one byte
-pub byte-here : (s : Bytes) (at : ℕ) → getD s at 0 ≡ getD (take 1 (drop at s)) 0 0
-byte-here s at = sym (getD-take 1 (drop at s) 0 0 (lit< tt) ∙ getD-drop at s 0 0 ∙ ap (λ (i : ℕ). getD s i 0) (add-zero at))
 
 -- a run in two parts
 module _ (k m : ℕ) (s : Bytes) (at : ℕ) (t : Bytes) (from : ℕ) (h : at + k ≤ length s) (g : from + k ≤ length t) where

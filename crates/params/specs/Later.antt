@@ -36,22 +36,35 @@ factor-is e = go (ltb e 32) refl
     go true p = shifted e (ltb-true e 32 p)
     go false p = refl
 
+-- ---- the quotient
+pub parted-shift : (n e : ℕ) → e < 32 → n / 2 ^ e ≡ n / option (checkedShl 1 e) u32Max (λ f. f)
+parted-shift n e h = rw (← factor-shift e h .0, shifted e h)
+
+pub parted-most : (n e : ℕ) → 32 ≤ e → n / 4294967295 ≡ n / option (checkedShl 1 e) u32Max (λ f. f)
+parted-most n e h = rw (← factor-most e h)
+
 -- ---- the product that is cut
-module _ (e f base cap : ℕ) (p : f ≡ option (checkedShl 1 e) u32Max (λ f. f)) (q : 0 < f) (w : Fits w64 cap) where
-  pub backoff-cap : cap / f < base → fromNanos cap ≡ rule.backoff e (fromNanos base) (fromNanos cap)
+module _ (e f q base cap : ℕ) (p : f ≡ option (checkedShl 1 e) u32Max (λ f. f)) (z : 0 < f) (d : q ≡ cap / option (checkedShl 1 e) u32Max (λ f. f)) (w : Fits w64 cap) where
+  quotient : q ≡ cap / f
+  quotient = d ∙ rw p
+
+  pub backoff-cap : q < base → fromNanos cap ≡ rule.backoff e (fromNanos base) (fromNanos cap)
   backoff-cap h =
-      let l : cap < base * f = div-lt-iff-lt-mul q .0 h in
+      let l : cap < base * f = div-lt-iff-lt-mul z .0 (rw quotient at h) in
       let m : cap ≡ min (base * f) cap = omega arith in
       ap fromNanos m ∙ rw (p ∙ factor-is e) (sym (backoff-nanos e base cap (w .fits)))
 
-  pub backoff-whole : base ≤ cap / f → fromNanos (base * f) ≡ rule.backoff e (fromNanos base) (fromNanos cap)
+  product-most : base ≤ q → base * f ≤ cap
+  product-most h = le-div-iff-mul-le z .0 (rw quotient at h)
+
+  pub backoff-whole : base ≤ q → fromNanos (base * f) ≡ rule.backoff e (fromNanos base) (fromNanos cap)
   backoff-whole h =
-      let l : base * f ≤ cap = le-div-iff-mul-le q .0 h in
+      let l : base * f ≤ cap = product-most h in
       let m : base * f ≡ min (base * f) cap = omega arith in
       ap fromNanos m ∙ rw (p ∙ factor-is e) (sym (backoff-nanos e base cap (w .fits)))
 
-pub product-fits : (f base cap : ℕ) → 0 < f → base ≤ cap / f → Fits w64 cap → Fits w64 (base * f)
-product-fits f base cap q h w = let l : base * f ≤ cap = le-div-iff-mul-le q .0 h in omega arith
+  pub product-fits : base ≤ q → Fits w64 (base * f)
+  product-fits h = let l : base * f ≤ cap = product-most h in omega arith
 
 -- ---- the step that is halved: k halvings are left, enough for s
 pub record Later (now d s : ℕ) : Type 0 where
@@ -95,4 +108,4 @@ age-some now was h = (refl, refl)
 pub younger-is : (span now was a : ℕ) → a ≡ now - was → ltb a span ≡ rule.younger span now was
 younger-is span now was a e = rw e (sym (younger-nanos span now was))
 
-pub ruleset timing = (needs, factor-shift, factor-most, backoff-cap, backoff-whole, product-fits, later-start, later-turn, later-end, resend-is, age-none, age-some, younger-is)
+pub ruleset timing = (needs, factor-shift, factor-most, parted-shift, parted-most, backoff-cap, backoff-whole, product-fits, later-start, later-turn, later-end, resend-is, age-none, age-some, younger-is)

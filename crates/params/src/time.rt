@@ -1,6 +1,6 @@
 // Spans and deadlines in nanoseconds.
 ghost use mathlib.Core.Path.{_≡_};
-ghost use Prim.Native.Nat.{_-_, _<_, min};
+ghost use Prim.Native.Nat.{_-_, _/_, _<_, min};
 ghost use Rattle.rules.specs.Base.{option};
 ghost use Rattle.rules.specs.Std.{fromNanos, durationMax, saturatingSince, checkedShl, u32Max};
 ghost use Rattle.rules.specs.Time as rule;
@@ -22,12 +22,22 @@ pub fn factor(exponent: u32) -> u32
     4294967295
 }
 
+// A number divided by the factor: a shift where that is a power of two.
+fn parted(n: u64, exponent: u32) -> u64
+    ensures { λ r. ⌜ r ≡ n / option (checkedShl 1 exponent) u32Max (λ f. f) ⌝ }
+{
+    if exponent < 32 {
+        return n >> exponent;
+    }
+    n / 4294967295
+}
+
 // The base times the factor, cut to the cap. The product is computed only where it is within the cap.
 pub fn backoff(exponent: u32, base: u64, cap: u64) -> u64
     ensures { λ r. ⌜ fromNanos r ≡ rule.backoff exponent (fromNanos base) (fromNanos cap) ⌝ }
 {
     let f = factor(exponent) as u64;
-    if cap / f < base {
+    if parted(cap, exponent) < base {
         return cap;
     }
     base * f

@@ -1,4 +1,4 @@
-// Flags at a place.
+// Flags at a place: a byte, 1 or 0.
 ghost use mathlib.Core.Path.{_≡_};
 ghost use mathlib.Core.List.{[], _∷_};
 ghost use Prim.Native.Nat.{_<_};

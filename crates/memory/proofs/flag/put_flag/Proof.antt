@@ -1,8 +1,8 @@
--- `leg_entry::cell::put_flag` meets its contract.
+-- `memory::flag::put_flag` meets its contract.
 use Rattle.laws.specs.Splice.{wrote-same}
 use borrow.Author.Needs.{needs}
-use Rattle.leg_entry.proofs.cell.put_flag.Statement.{statement}
-use Rattle.leg_entry.proofs.cell.put_flag.Tie as tie
+use Rattle.memory.proofs.flag.put_flag.Statement.{statement}
+use Rattle.memory.proofs.flag.put_flag.Tie as tie
 
 returns : tie.Need-returns
 returns c = wrote-same _ _ _ _ (c .bit .ensures) (search needs)

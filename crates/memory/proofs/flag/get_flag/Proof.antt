@@ -1,8 +1,8 @@
--- `leg_entry::cell::get_flag` meets its contract.
-use Rattle.leg_entry.specs.Entry.{flag-here}
+-- `memory::flag::get_flag` meets its contract.
+use Rattle.laws.specs.Cell.{flag-here}
 use borrow.Author.Needs.{needs}
-use Rattle.leg_entry.proofs.cell.get_flag.Statement.{statement}
-use Rattle.leg_entry.proofs.cell.get_flag.Tie as tie
+use Rattle.memory.proofs.flag.get_flag.Statement.{statement}
+use Rattle.memory.proofs.flag.get_flag.Tie as tie
 
 returns : tie.Need-returns
 returns c = flag-here (c .before .args .s .now) (c .before .args .at)
