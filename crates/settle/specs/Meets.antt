@@ -6,17 +6,17 @@ use mathlib.Core.List.{List, [], _∷_, _++_}
 use Prim.Native.Nat.{ℕ, suc, _+_, _≤_, _<_}
 use native.Mathlib.Nat.{zero-add}
 use native.Mathlib.Omega.{arith}
-use borrow.Author.Tests.{lt-ltb, le-ltb, ne-eqb}
+use borrow.Author.Tests.{lt-ltb, le-ltb, ne-eqb, not-true, not-false}
 use lib.Dec.{eqb, ltb}
 use lib.ListN.{length, take, drop, getD}
 use mir.Syntax.{w8}
 use mir.Val.{Fits}
 use Rattle.rules.specs.Base.{if_then_else_, option, Bytes, All}
-use Rattle.rules.specs.Data.{Table, Output, Result}
+use Rattle.rules.specs.Data.{Call, Table, Output, Result}
 use Rattle.rules.specs.Output.{outputs}
 use Rattle.rules.specs.Time.{outOfRange}
 use Rattle.rules.specs.Settle.{refuse, step}
-use Rattle.rules.specs.Record.{Timed, readCall, readNew}
+use Rattle.rules.specs.Record.{finished, readCall, readNew}
 use Rattle.rules.specs.Entry.{Start, Made, Refused, newTable}
 use Rattle.rules.specs.Entry as rule
 use Rattle.rules.specs.Bounds.{IsByte, Bounds}
@@ -30,6 +30,9 @@ use Rattle.output.specs.Write.{Puts}
 use Rattle.state.specs.View.{viewTable, FitTable, Told}
 use Rattle.steps.specs.Did.{Space, Did, Ruled, ruled-refused, ruled-is, space-result}
 use Rattle.steps.specs.Sound.{Ready, sound-bounds}
+use Rattle.calls.specs.Read.{kindFields}
+use Rattle.input.specs.Frame.{Opens}
+use Rattle.table.specs.Ask.{answered, Asked, Answers}
 use Rattle.settle.specs.Contract.{Left, Begun, ruled, ruledBytes, Called}
 
 pub ready : {t : Bytes} → Left t → Ready t
@@ -41,13 +44,21 @@ pub short : (t s o : Bytes) → length o < 10_240 → refuse 2 (viewTable t) ≡
 unfolding rule.call
 short t s o h = rw (lt-ltb (length o) 10_240 h)
 
-pub unread : (t s o : Bytes) → 10_240 ≤ length o → none ≡ readCall s → refuse 3 (viewTable t) ≡ ruled t s o
-unfolding rule.call
-unread t s o h e = rw (le-ltb (length o) 10_240 h, ← e)
+module _ {t s o : Bytes} (h : 10_240 ≤ length o) {good : Bool} {k now at : ℕ} (w : Opens s good k now at) where
+  pub unread : not good ≡ true → refuse 3 (viewTable t) ≡ ruled t s o
+  unfolding rule.call
+  unread q = let e : readCall s ≡ none = rw (not-true good q) at (w .is) in rw (le-ltb (length o) 10_240 h, e)
 
-pub reads : {x : Timed} (t s o : Bytes) → 10_240 ≤ length o → some x ≡ readCall s → step (x .now) (x .call) (viewTable t) ≡ ruled t s o
-unfolding rule.call
-reads t s o h e = rw (le-ltb (length o) 10_240 h, ← e)
+  -- the call that the fields say
+  said : (x : Option Call) → option (option x none λ c. some (record { now = now; call = c })) (refuse 3 (viewTable t)) (λ c. step (c .now) (c .call) (viewTable t)) ≡ option x (refuse 3 (viewTable t)) λ c. step now c (viewTable t)
+  said none = refl
+  said (some c) = refl
+
+  pub reads : not good ≡ false → answered (kindFields k) now at s (viewTable t) ≡ ruled t s o
+  unfolding rule.call answered
+  reads q =
+      let e : readCall s ≡ option (finished (kindFields k (drop at s))) none (λ c. some (record { now = now; call = c })) = rw (not-false good q) at (w .is) in
+      sym (rw (le-ltb (length o) 10_240 h, e) (said (finished (kindFields k (drop at s)))))
 
 -- 10,240 bytes are room for it
 pub space : {t o : Bytes} (s : Bytes) → All IsByte s → Left t → 10_240 ≤ length o → Space o 0 ((ruled t s o) .step .outs)
@@ -69,31 +80,21 @@ called {t} {o} {k = k} s b l r =
       bytes = w .is ∙ ap (λ (i : ℕ). ruledBytes t s o ++ drop i o) (sym (w .end));
     }
 
-was-true : (b : Bool) → not b ≡ false → b ≡ true
-was-true true e = refl
-was-true false e = cc
-
-was-false : (b : Bool) → not b ≡ true → b ≡ false
-was-false true e = cc
-was-false false e = refl
-
 -- 2: the buffer is short
 pub call-short : {t o : Bytes} (s : Bytes) → All IsByte s → Left t → length o < 10_240 → Called t s o t o 2 0
 call-short {t} {o} s b l h = called s b l (ruled-is (ruled-refused 2 (l .fit) (omega arith)) (short t s o h))
 
--- 3: no call was read
-pub call-unread : {t o : Bytes} (s : Bytes) (x : Timed) (ok : Bool) → All IsByte s → Left t → 10_240 ≤ length o → (if ok then some x else none) ≡ readCall s → not ok ≡ true
-    → Called t s o t o 3 0
-call-unread {t} {o} s x ok b l h e f = called s b l (ruled-is (ruled-refused 3 (l .fit) (omega arith)) (unread t s o h (rw (was-false ok f) at e)))
+module _ {t s o : Bytes} (b : All IsByte s) (l : Left t) (h : 10_240 ≤ length o) {good : Bool} {k now at : ℕ} (w : Opens s good k now at) where
+  -- 3: no call was read
+  pub call-unread : not good ≡ true → Called t s o t o 3 0
+  call-unread q = called s b l (ruled-is (ruled-refused 3 (l .fit) (omega arith)) (unread h w q))
 
--- a call was read: its step
-pub call-space : {t o : Bytes} (s : Bytes) (x : Timed) (ok : Bool) → All IsByte s → Left t → 10_240 ≤ length o → (if ok then some x else none) ≡ readCall s → not ok ≡ false
-    → Space o 0 ((step (x .now) (x .call) (viewTable t)) .step .outs)
-call-space {t} {o} s x ok b l h e f = space-result (space s b l h) (sym (reads {x = x} t s o h (rw (was-true ok f) at e)))
+  -- a call was read: its step
+  pub call-asked : not good ≡ false → Asked (kindFields k) now at s t o
+  call-asked q = record { ready = ready l; start = w .room; space = space-result (space s b l h) (sym (reads h w q)) }
 
-pub call-done : {t o t′ o′ : Bytes} {n k : ℕ} (s : Bytes) (x : Timed) (ok : Bool) → All IsByte s → Left t → 10_240 ≤ length o → (if ok then some x else none) ≡ readCall s → not ok ≡ false
-    → Ruled t o 0 t′ o′ n k (step (x .now) (x .call) (viewTable t)) → Called t s o t′ o′ n k
-call-done {t} {o} s x ok b l h e f r = called s b l (ruled-is r (reads {x = x} t s o h (rw (was-true ok f) at e)))
+  pub call-done : {t′ o′ : Bytes} {n m : ℕ} → not good ≡ false → Answers (kindFields k) now at s t o t′ o′ n m → Called t s o t′ o′ n m
+  call-done q a = called s b l (ruled-is (a .ruled) (reads h w q))
 
 -- ---- new
 

@@ -2,7 +2,7 @@
 pub mod export;
 
 use begin::read_new;
-use input::read::read_call;
+use input::read_opening;
 use start::start;
 use steps::Answer;
 use table::step;
@@ -33,10 +33,9 @@ pub fn call(table: &mut [u8], input: &[u8], out: &mut [u8]) -> Answer
     if out.len() < 10240 {
         return Answer { number: 2, len: 0 };
     }
-    let r = read_call(input);
+    let r = read_opening(input);
     if !r.ok {
         return Answer { number: 3, len: 0 };
     }
-    let c = r.call;
-    step(table, out, c)
+    step(table, out, input, r.at, r.kind, r.now)
 }

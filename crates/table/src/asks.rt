@@ -1,4 +1,10 @@
 // The calls of a msg1: arrived, msg1, replacement.
+use admission::arrived::arrived;
+use hello::msg1::msg1;
+use hello::msg1::replacement;
+use hellos::arrived_fields;
+use hellos::msg1_fields;
+use hellos::replacement_fields;
 use steps::Answer;
 ghost use Rattle.rules.specs.Record.{arrivedFields, msg1Fields, replacementFields};
 ghost use Rattle.table.specs.Ask.{Asked, Answers};
@@ -8,7 +14,14 @@ pub fn arrived_call(t: &mut [u8], out: &mut [u8], s: &[u8], at: usize, clock: u6
     requires { ⌜ Asked arrivedFields clock at (now s) (now t) (now out) ⌝ }
     ensures { λ r. ⌜ Answers arrivedFields clock at (now (s .entry)) (now (t .entry)) (now (out .entry)) (now (t .exit)) (now (out .exit)) (r .number) (r .len) ⌝ }
 {
-    Answer { number: 3, len: 0 }
+    let r = arrived_fields(s, at);
+    if !r.ok {
+        return Answer { number: 3, len: 0 };
+    }
+    let pair = r.pair;
+    let message = r.message;
+    let n = arrived(t, out, 0, pair, s, message);
+    Answer { number: 0, len: n }
 }
 
 // 4: a msg1 was read and verified.
@@ -16,7 +29,12 @@ pub fn msg1_call(t: &mut [u8], out: &mut [u8], s: &[u8], at: usize, clock: u64) 
     requires { ⌜ Asked msg1Fields clock at (now s) (now t) (now out) ⌝ }
     ensures { λ r. ⌜ Answers msg1Fields clock at (now (s .entry)) (now (t .entry)) (now (out .entry)) (now (t .exit)) (now (out .exit)) (r .number) (r .len) ⌝ }
 {
-    Answer { number: 3, len: 0 }
+    let r = msg1_fields(s, at);
+    if !r.ok {
+        return Answer { number: 3, len: 0 };
+    }
+    let hello = r.hello;
+    msg1(t, out, 0, s, hello, r.reachable, clock)
 }
 
 // 5: a msg1 that is to replace a session.
@@ -24,5 +42,10 @@ pub fn replacement_call(t: &mut [u8], out: &mut [u8], s: &[u8], at: usize, clock
     requires { ⌜ Asked replacementFields clock at (now s) (now t) (now out) ⌝ }
     ensures { λ r. ⌜ Answers replacementFields clock at (now (s .entry)) (now (t .entry)) (now (out .entry)) (now (t .exit)) (now (out .exit)) (r .number) (r .len) ⌝ }
 {
-    Answer { number: 3, len: 0 }
+    let r = replacement_fields(s, at);
+    if !r.ok {
+        return Answer { number: 3, len: 0 };
+    }
+    let hello = r.hello;
+    replacement(t, out, 0, s, hello, clock)
 }

@@ -1,33 +1,29 @@
 -- `settle::call` meets its contract.
 use mathlib.Core.Path.{sym, _∙_}
 use denote.Ref.{now}
-use Rattle.rules.specs.Base.{All}
-use Rattle.rules.specs.Bounds.{IsByte}
-use Rattle.calls.specs.Call.{timedOf}
 use Rattle.steps.specs.Did.{puts-length}
-use Rattle.settle.specs.Meets.{all-bytes, ready, call-short, call-unread, call-space, call-done}
+use Rattle.settle.specs.Meets.{all-bytes, call-short, call-unread, call-asked, call-done}
 use borrow.Author.Needs.{needs}
 use Rattle.settle.proofs.call.Statement.{statement}
 use Rattle.settle.proofs.call.Tie as tie
 
 returns : tie.Need-returns
-returns c = call-short (now (c .before .before .before .before .args .input)) (all-bytes (now (c .before .before .before .before .args .input)) (c .before .before .shared-slice-known .given)) (c .before .before .before .before .pre) (c .if1 .taken)
+returns c = call-short (now (⟨args⟩ .input)) (all-bytes (now (⟨args⟩ .input)) (⟨shared-slice-known⟩ .given)) (⟨pre⟩) (⟨if1⟩ .taken)
 
 returns-2 : tie.Need-returns-2
-returns-2 c = call-unread (now (c .before .before .before .before .before .before .before .args .input)) (timedOf (c .before .before .read-call .result .call)) (c .before .before .read-call .result .ok) (all-bytes (now (c .before .before .before .before .before .before .before .args .input)) (c .before .before .before .before .before .shared-slice-known .given)) (c .before .before .before .before .before .before .before .pre) (c .before .before .before .if1 .left) (c .before .before .read-call .ensures .0) (c .if2 .taken)
+returns-2 c = call-unread (all-bytes (now (⟨args⟩ .input)) (⟨shared-slice-known⟩ .given)) (⟨pre⟩) (⟨if1⟩ .left) (⟨read-opening⟩ .ensures) (⟨if2⟩ .taken)
 
 step-requires : tie.Need-step-requires
-step-requires c κs =
-    (ready (c .before .before .before .before .before .before .before .before .before .before .pre), (c .before .before .before .before .before .read-call .ensures .1, call-space (now (c .before .before .before .before .before .before .before .before .before .before .args .input)) (timedOf (c .before .before .before .before .before .read-call .result .call)) (c .before .before .before .before .before .read-call .result .ok) (all-bytes (now (c .before .before .before .before .before .before .before .before .before .before .args .input)) (c .before .before .before .before .before .before .before .before .shared-slice-known .given)) (c .before .before .before .before .before .before .before .before .before .before .pre) (c .before .before .before .before .before .before .if1 .left) (c .before .before .before .before .before .read-call .ensures .0) (c .before .before .before .if2 .left)))
+step-requires c κs = call-asked (all-bytes (now (⟨args⟩ .input)) (⟨shared-slice-known⟩ .given)) (⟨pre⟩) (⟨if1⟩ .left) (⟨read-opening⟩ .ensures) (⟨if2⟩ .left)
 
 same-length : tie.Need-same-length
-same-length c = c .before .before .before .before .step .ensures .did .table .fit .size ∙ sym (c .before .before .before .before .before .before .before .before .before .before .before .before .before .before .before .pre .fit .size)
+same-length c = ⟨step⟩ .ensures .ruled .did .table .fit .size ∙ sym (⟨pre⟩ .fit .size)
 
 same-length-2 : tie.Need-same-length-2
-same-length-2 c = puts-length (c .before .before .before .before .step .ensures .did .puts)
+same-length-2 c = puts-length (⟨step⟩ .ensures .ruled .did .puts)
 
 returns-3 : tie.Need-returns-3
-returns-3 c = call-done (now (c .before .before .before .before .before .before .before .before .before .before .before .before .before .before .before .args .input)) (timedOf (c .before .before .before .before .before .before .before .before .before .before .read-call .result .call)) (c .before .before .before .before .before .before .before .before .before .before .read-call .result .ok) (all-bytes (now (c .before .before .before .before .before .before .before .before .before .before .before .before .before .before .before .args .input)) (c .before .before .before .before .before .before .before .before .before .before .before .before .before .shared-slice-known .given)) (c .before .before .before .before .before .before .before .before .before .before .before .before .before .before .before .pre) (c .before .before .before .before .before .before .before .before .before .before .before .if1 .left) (c .before .before .before .before .before .before .before .before .before .before .read-call .ensures .0) (c .before .before .before .before .before .before .before .before .if2 .left) (c .before .before .before .before .step .ensures)
+returns-3 c = call-done (all-bytes (now (⟨args⟩ .input)) (⟨shared-slice-known⟩ .given)) (⟨pre⟩) (⟨if1⟩ .left) (⟨read-opening⟩ .ensures) (⟨if2⟩ .left) (⟨step⟩ .ensures)
 
 pub call-spec : {M : Type 1} → statement M
-call-spec = tie.close (tie.spec returns (λ c κs. search needs) returns-2 step-requires same-length same-length-2 returns-3)
+call-spec = tie.close (tie.spec NEEDS)

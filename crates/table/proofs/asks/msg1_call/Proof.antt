@@ -1,4 +1,26 @@
+-- `table::asks::msg1_call` meets its contract.
+use mathlib.Core.Path.{_∙_, sym}
+use Rattle.rules.specs.Settle.{step}
+use Rattle.steps.specs.Did.{puts-length, ruled-ok}
+use Rattle.table.specs.Ask.{unread, read-space, read-done}
+use borrow.Author.Needs.{needs}
 use Rattle.table.proofs.asks.msg1_call.Statement.{statement}
 use Rattle.table.proofs.asks.msg1_call.Tie as tie
+
+returns : tie.Need-returns
+returns c = unread (⟨pre⟩) (⟨msg1-fields⟩ .ensures .0) (⟨if1⟩ .taken)
+
+msg1-requires : tie.Need-msg1-requires
+msg1-requires c κs = (⟨pre⟩ .ready, (⟨msg1-fields⟩ .ensures .1, read-space (⟨pre⟩) (⟨msg1-fields⟩ .ensures .0) (⟨if1⟩ .left)))
+
+same-length : tie.Need-same-length
+same-length c = ⟨msg1⟩ .ensures .did .table .fit .size ∙ sym (⟨pre⟩ .ready .fit .size)
+
+same-length-2 : tie.Need-same-length-2
+same-length-2 c = puts-length (⟨msg1⟩ .ensures .did .puts)
+
+returns-2 : tie.Need-returns-2
+returns-2 c = read-done (⟨pre⟩) (⟨msg1-fields⟩ .ensures .0) (⟨if1⟩ .left) (⟨msg1⟩ .ensures)
+
 pub msg1-call-spec : {M : Type 1} → statement M
-msg1-call-spec = ?
+msg1-call-spec = tie.close (tie.spec NEEDS)
