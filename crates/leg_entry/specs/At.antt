@@ -176,15 +176,16 @@ module _ (bs : Bytes) (g : Leg) where
   pub stored-unsent : answers g ≡ true → answerOf g .sent ≡ false → true ≡ is (storedMsg2 bs g)
   stored-unsent e q = rw (stored-answer e, q)
 
-  pub stored-sent : answers g ≡ true → answerOf g .sent ≡ true → same bs (g .msg1) ≡ is (storedMsg2 bs g)
+  stored-sent : answers g ≡ true → answerOf g .sent ≡ true → same bs (g .msg1) ≡ is (storedMsg2 bs g)
   stored-sent e q = rw (stored-answer e, q) (is-flag (same bs (g .msg1)) (answerOf g .msg2))
 
--- the bytes are those of msg1, or not, by their lengths
-pub stored-other : (g : Leg) (bs : Bytes) {m n at : ℕ} {s : Bytes} → Stands (g .msg1) at n s → length bs ≡ m → (n ≡ m → ⊥) → same bs (g .msg1) ≡ false
-stored-other g bs k e d = same-apart bs (g .msg1) (λ q. d (sym (k .size) ∙ sym q ∙ e))
+  -- the bytes are those of msg1, or not, by their lengths
+  module _ (e : answers g ≡ true) (q : answerOf g .sent ≡ true) {m at : ℕ} {s : Bytes} (k : Stands (g .msg1) at m s) where
+    pub stored-other : {n : ℕ} → length bs ≡ n → (m ≡ n → ⊥) → false ≡ is (storedMsg2 bs g)
+    stored-other h d = sym (same-apart bs (g .msg1) (λ z. d (sym (k .size) ∙ sym z ∙ h))) ∙ stored-sent e q
 
-pub stored-same : (g : Leg) (bs : Bytes) {r : Bool} {m n at : ℕ} {s : Bytes} → Stands (g .msg1) at n s → n ≡ m → r ≡ same bs (take m (drop at s)) → r ≡ same bs (g .msg1)
-stored-same g bs k e q = q ∙ rw (← e, k .is)
+    pub stored-same : {r : Bool} {n : ℕ} → m ≡ n → r ≡ same bs (take n (drop at s)) → r ≡ is (storedMsg2 bs g)
+    stored-same z h = h ∙ rw (← z, k .is) (stored-sent e q)
 
 -- ---- the next resend
 module _ (g : Leg) where

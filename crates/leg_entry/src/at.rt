@@ -1,22 +1,20 @@
 // Single cells of the i-th leg, read where they stand.
 use crate::cell::get_flag;
 use crate::cell::get_len;
-use memory::compare::same_128;
+use memory::compare::same_run;
 use memory::read::get_be;
 use node_addr::Digest;
 use node_addr::LinkNo;
-use node_addr::Message;
 use node_addr::NodeAddr;
 use node_addr::place::load_digest;
 use node_addr::place::load_node;
 ghost use mathlib.Core.Path.{_≡_};
 ghost use mathlib.Core.Bool.{true, false};
 ghost use mathlib.Core.Option.{none};
-ghost use Prim.Native.Nat.{_+_, _*_, _<_};
-ghost use lib.ListN.{length};
+ghost use Prim.Native.Nat.{_+_, _*_, _≤_, _<_};
+ghost use lib.ListN.{length, take, drop};
 ghost use Rattle.rules.specs.Base.{is};
 ghost use Rattle.rules.specs.Legs.{answered, answers, storedMsg2};
-ghost use Rattle.node_addr.specs.View.{FitMessage, viewMessage};
 ghost use Rattle.leg_entry.specs.View.{FitLegs, legCount, legAt};
 ghost use Rattle.leg_entry.specs.At.{namedPeer, nextResend, answerOf, Stands};
 
@@ -144,12 +142,12 @@ pub fn msg2_len_at(s: &[u8], i: usize) -> usize
     get_len(s, i * 351 + 222)
 }
 
-// Whether it yields its msg2 for these bytes: an answer not yet sent for any, a sent one for those of its msg1.
-pub fn stored_at(s: &[u8], i: usize, m: Message) -> bool
+// Whether it yields its msg2 for the n bytes from `at` on: an answer not yet sent for any, a sent one for those of its msg1.
+pub fn stored_at(s: &[u8], i: usize, rec: &[u8], at: usize, n: usize) -> bool
     requires { ⌜ FitLegs (now s) ⌝ }
     requires { ⌜ i < legCount (now s) ⌝ }
-    requires { ⌜ FitMessage m ⌝ }
-    ensures { λ r. ⌜ r ≡ is (storedMsg2 (viewMessage m) (legAt (now (s .entry)) i)) ⌝ }
+    requires { ⌜ at + n ≤ length (now rec) ⌝ }
+    ensures { λ r. ⌜ r ≡ is (storedMsg2 (take n (drop at (now (rec .entry)))) (legAt (now (s .entry)) i)) ⌝ }
 {
     if !answers_at(s, i) {
         return false;
@@ -157,11 +155,9 @@ pub fn stored_at(s: &[u8], i: usize, m: Message) -> bool
     if !marked_at(s, i) {
         return true;
     }
-    let n = msg1_len_at(s, i);
-    let k = m.len;
-    if n != k {
+    let k = msg1_len_at(s, i);
+    if k != n {
         return false;
     }
-    let b = m.bytes;
-    same_128(b, k, s, i * 351 + 94)
+    same_run(rec, at, s, i * 351 + 94, n)
 }

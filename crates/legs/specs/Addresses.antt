@@ -3,7 +3,6 @@ use mathlib.Core.Path.{_≡_, refl, sym, ap, _∙_}
 use mathlib.Core.Bool.{Bool, true, false, _&&_}
 use mathlib.Core.List.{List, [], map}
 use Prim.Native.Nat.{ℕ, zero, suc, _+_, _-_, _*_, _<_}
-use native.Mathlib.Numerals.{add-one}
 use native.Mathlib.Omega.{arith}
 use lib.Dec.{lit<}
 use lib.Seq.{getD-take, getD-drop}
@@ -16,7 +15,7 @@ use Rattle.laws.specs.Chunk.{chunks}
 use Rattle.laws.specs.Store.{entries-count}
 use Rattle.link_entry.specs.View.{pathOf, pathCount, noPath, viewLinks, FitLinks, linkCount, noLink}
 use Rattle.link_entry.specs.Here.{paths-here, paths-fit}
-use Rattle.legs.specs.Stored.{reach}
+use Rattle.legs.specs.Stored.{reach, length-reach}
 
 abbrev pub linkAt : Bytes → ℕ → LinkRec
 linkAt s i = getD (viewLinks s) i noLink
@@ -28,9 +27,6 @@ links-count f = entries-count _ f
 abbrev pub pathsAt : Bytes → ℕ → Bytes
 pathsAt s i = take 217 (drop (i * 297 + 80) s)
 
-length-reach : (p : Pair) (r : LinkRec) → length (reach p r) ≡ length (r .paths) + 1
-length-reach p r = rw (length-map, add-one)
-
 module _ {s : Bytes} {i : ℕ} (f : FitLinks s) (h : i < linkCount s) where
   paths-count : pathCount (pathsAt s i) ≡ getD s (i * 297 + 296) 0
   paths-count =
@@ -40,8 +36,8 @@ module _ {s : Bytes} {i : ℕ} (f : FitLinks s) (h : i < linkCount s) where
   paths-length : length (linkAt s i .paths) ≡ pathCount (pathsAt s i)
   paths-length = ap length (sym (paths-here f h)) ∙ entries-count pathOf (paths-fit f h)
 
-  pub address-count : (p : Pair) {n : ℕ} → n ≡ getD s (i * 297 + 296) 0 → n + 1 ≡ length (reach p (linkAt s i))
-  address-count p e = ap (λ (k : ℕ). k + 1) (e ∙ sym paths-count ∙ sym paths-length) ∙ sym (length-reach p (linkAt s i))
+  pub address-count : {n : ℕ} → n ≡ getD s (i * 297 + 296) 0 → n + 1 ≡ length (linkAt s i .paths) + 1
+  address-count e = ap (λ (k : ℕ). k + 1) (e ∙ sym paths-count ∙ sym paths-length)
 
   -- the first address
   module _ (p : Pair) {j : ℕ} (z : j ≡ 0) where

@@ -8,7 +8,7 @@ use native.Mathlib.Numerals.{add-one}
 use native.Mathlib.Omega.{arith}
 use borrow.Author.Tests.{eqb-true}
 use lib.Seq.{drop-cons}
-use lib.ListN.{length, drop, getD, drop-of-length-le}
+use lib.ListN.{length, drop, getD, length-map, drop-of-length-le}
 use Rattle.rules.specs.Base.{if_then_else_, option, is, orElse, Bytes, same, find, any}
 use Rattle.rules.specs.Data.{Pair, samePair, PathRec, LinkRec, Answered, Leg}
 use Rattle.rules.specs.Links.{provenAt, indexed}
@@ -38,16 +38,6 @@ pub record Tells (r : Found) (s : Bytes) (o : Option Stored) : Type 0 where
 
 pub tells-no : {s : Bytes} {o : Option Stored} → o ≡ none → Tells foundv.Nothing s o
 tells-no e = record { within = tt; is = e }
-
-pub tells-none : {r : Found} {s : Bytes} {o : Option Stored} → Tells r s o → r ≡ foundv.Nothing → o ≡ none
-tells-none {s = s} t e = t .is ∙ ap (λ (r : Found). storedFrom r s) e
-
--- what yields o yields p
-pub tells-on : {r : Found} {s : Bytes} {o p : Option Stored} {i : ℕ} → Tells r s o → r ≡ foundv.At i → ((z : Stored) → o ≡ some z → p ≡ some z) → Tells (foundv.At i) s p
-tells-on {s = s} {i = i} t e f = record {
-  within = rw e at (t .within);
-  is = f (record { link = legAt s i .link; msg2 = answerOf (legAt s i) .msg2 }) (t .is ∙ ap (λ (r : Found). storedFrom r s) e);
-}
 
 -- ---- what the leg on link n yields
 abbrev pub yieldOf : Bytes → List Leg → ℕ → Option Stored
@@ -110,45 +100,74 @@ stored-on : (p : Pair) (bs : Bytes) (s : List Leg) (r : LinkRec) → storedOn p 
 unfolding storedOn indexed
 stored-on p bs s r = ap (λ (b : Bool). if (samePair p (r .setup) && not (r .released)) || b then yieldOf bs s (r .no) else none) (sym (any-map p (r .paths)))
 
--- the inner loop stands at j: o, what the link yields, is y if the index has it at an address from there on
-pub record Reaching (o y : Option Stored) (bs : List Bool) (k j : ℕ) : Type 0 where
-  pub count : k ≡ length bs
+-- those that are to be looked at, by the place of the leg that yields: none where no leg does
+abbrev pub looked : Found → List Bool → List Bool
+looked (foundv.At i) bs = bs
+looked foundv.Nothing bs = []
+
+-- how many
+abbrev pub toLook : Found → LinkRec → ℕ
+toLook (foundv.At i) r = length (r .paths) + 1
+toLook foundv.Nothing r = 0
+
+pub length-reach : (p : Pair) (r : LinkRec) → length (reach p r) ≡ length (r .paths) + 1
+length-reach p r = rw (length-map, add-one)
+
+to-look : (f : Found) (p : Pair) (r : LinkRec) → toLook f r ≡ length (looked f (reach p r))
+to-look (foundv.At i) p r = sym (length-reach p r)
+to-look foundv.Nothing p r = refl
+
+either : {A : Type 0} (b : Bool) (x : A) → (if b then x else x) ≡ x
+either true x = refl
+either false x = refl
+
+-- the inner loop stands at j: o, what the link yields, is y, what its leg at the place f in t yields, if the index has the link at an address from there on
+pub record Reaching (o y : Option Stored) (f : Found) (t : Bytes) (bs : List Bool) (k j : ℕ) : Type 0 where
+  pub yields : Tells f t y
+  pub count : k ≡ length (looked f bs)
   pub within : j ≤ k
-  pub left : o ≡ (if any holds (drop j bs) then y else none)
+  pub left : o ≡ (if any holds (drop j (looked f bs)) then y else none)
 
-pub reaching-start : (p : Pair) (bs : Bytes) (s : List Leg) (r : LinkRec) {k : ℕ} → k ≡ length (reach p r) → Reaching (storedOn p bs s r) (yieldOf bs s (r .no)) (reach p r) k 0
-reaching-start p bs s r e = record { count = e; within = omega arith; left = stored-on p bs s r }
+pub reaching-start : (p : Pair) (bs : Bytes) (s : List Leg) (r : LinkRec) (f : Found) {t : Bytes} {n k : ℕ} → n ≡ r .no → Tells f t (yieldOf bs s n) → k ≡ toLook f r
+    → Reaching (storedOn p bs s r) (yieldOf bs s (r .no)) f t (reach p r) k 0
+reaching-start p bs s r f {t} {n} e q z =
+    let y : Tells f t (yieldOf bs s (r .no)) = rw (← e) q in
+    record { yields = y; count = z ∙ to-look f p r; within = omega arith; left = stored-on p bs s r ∙ go f y }
+  where
+    go : (f : Found) → Tells f t (yieldOf bs s (r .no)) → (if any holds (reach p r) then yieldOf bs s (r .no) else none) ≡ (if any holds (looked f (reach p r)) then yieldOf bs s (r .no) else none)
+    go (foundv.At i) q = refl
+    go foundv.Nothing q = rw (q .is) (either (any holds (reach p r)) none)
 
-module _ {o y : Option Stored} {bs : List Bool} {k j : ℕ} (a : Reaching o y bs k j) where
-  reach-here : j < k → o ≡ (if getD bs j false || any holds (drop (j + 1) bs) then y else none)
-  reach-here h =
-      a .left
-      ∙ ap (λ (l : List Bool). if any holds l then y else none) (drop-cons bs j false (omega arith) ∙ ap (λ (i : ℕ). getD bs j false ∷ drop i bs) (sym (add-one j)))
-
-  pub reaching-hit : {z : Stored} → j < k → (if getD bs j false then y else none) ≡ some z → o ≡ some z
-  reaching-hit {z} h e = reach-here h ∙ go (getD bs j false) e
-    where
-      go : (b : Bool) → (if b then y else none) ≡ some z → (if b || any holds (drop (j + 1) bs) then y else none) ≡ some z
-      go true e = e
-      go false e = cc
-
-  pub reaching-skip : j < k → (if getD bs j false then y else none) ≡ none → Reaching o y bs k (j + 1)
-  reaching-skip h e = record { count = a .count; within = omega arith; left = reach-here h ∙ go (getD bs j false) (any holds (drop (j + 1) bs)) e }
-    where
-      go : (b c : Bool) → (if b then y else none) ≡ none → (if b || c then y else none) ≡ (if c then y else none)
-      go true true e = refl
-      go true false e = e
-      go false c e = refl
-
+module _ {o y : Option Stored} {f : Found} {t : Bytes} {bs : List Bool} {k j : ℕ} (a : Reaching o y f t bs k j) where
   pub reaching-end : k ≤ j → o ≡ none
-  reaching-end h = a .left ∙ ap (λ (l : List Bool). if any holds l then y else none) (drop-of-length-le bs {i = j} (omega arith))
+  reaching-end h = a .left ∙ ap (λ (l : List Bool). if any holds l then y else none) (drop-of-length-le (looked f bs) {i = j} (omega arith))
 
--- one address: reached, or not
-pub by-none : {b : Bool} {s : Bytes} (y : Option Stored) → b ≡ false → Tells foundv.Nothing s (if b then y else none)
-by-none y e = tells-no (rw e)
+  module _ (h : j < k) where
+    -- an address that is to be looked at is one of the link's
+    pub reaching-in : j < length bs
+    reaching-in = go f (a .count)
+      where
+        go : (f : Found) → k ≡ length (looked f bs) → j < length bs
+        go (foundv.At i) e = omega arith
+        go foundv.Nothing e = omega arith
 
-pub by-some : {b : Bool} {s : Bytes} {r : Found} (bs : Bytes) (ls : List Leg) {k n : ℕ} → b ≡ true → k ≡ n → Tells r s (yieldOf bs ls k) → Tells r s (if b then yieldOf bs ls n else none)
-by-some bs ls e q t = rw (e, ← q) t
+    reach-here : o ≡ (if getD bs j false || any holds (drop (j + 1) (looked f bs)) then y else none)
+    reach-here = a .left ∙ go f (a .count)
+      where
+        go : (f : Found) → k ≡ length (looked f bs) → (if any holds (drop j (looked f bs)) then y else none) ≡ (if getD bs j false || any holds (drop (j + 1) (looked f bs)) then y else none)
+        go (foundv.At i) e = ap (λ (l : List Bool). if any holds l then y else none) (drop-cons bs j false (omega arith) ∙ ap (λ (i : ℕ). getD bs j false ∷ drop i bs) (sym (add-one j)))
+        go foundv.Nothing e = absurd (omega arith)
+
+    pub reaching-skip : {b : Bool} → b ≡ getD bs j false → b ≡ false → Reaching o y f t bs k (j + 1)
+    reaching-skip e q = record { yields = a .yields; count = a .count; within = omega arith; left = reach-here ∙ rw (sym e ∙ q) }
+
+    -- the leg f yields what the link yields, and so what is searched for
+    pub reaching-hit : {b : Bool} {w : Option Stored} → b ≡ getD bs j false → b ≡ true → ((z : Stored) → o ≡ some z → w ≡ some z) → Tells f t w
+    reaching-hit {w = w} e q g = go f (a .count) (a .yields)
+      where
+        go : (f : Found) → k ≡ length (looked f bs) → Tells f t y → Tells f t w
+        go (foundv.At i) n y = record { within = y .within; is = g (record { link = legAt t i .link; msg2 = answerOf (legAt t i) .msg2 }) (reach-here ∙ rw (sym e ∙ q) (y .is)) }
+        go foundv.Nothing n y = absurd (omega arith)
 
 -- ---- the outer loop stands at i: o is what the links from there on yield
 pub record Looking (o : Option Stored) (p : Pair) (bs : Bytes) (s : List Leg) (ls : List LinkRec) (n i : ℕ) : Type 0 where
@@ -173,3 +192,10 @@ module _ {o : Option Stored} {p : Pair} {bs : Bytes} {s : List Leg} {ls : List L
   pub looking-end : n ≤ i → o ≡ none
   unfolding storedIn
   looking-end h = a .left ∙ ap (storedIn p bs s) (drop-of-length-le ls {i = i} (omega arith))
+
+-- ---- no legs: nothing is stored
+pub looking-none : (p : Pair) (bs : Bytes) (s : List Leg) (ls : List LinkRec) → length s ≡ 0 → storedIn p bs s ls ≡ none
+unfolding storedIn storedOn
+looking-none p bs [] [] e = refl
+looking-none p bs [] (r ∷ ls) e = ap (λ (o : Option Stored). orElse o (storedIn p bs [] ls)) (either (indexed p r) none) ∙ looking-none p bs [] ls e
+looking-none p bs (g ∷ s) ls e = absurd (omega arith)

@@ -1,5 +1,6 @@
 // The search for a stored msg2: over the links in ascending order and the addresses of each, left at the first leg that yields one.
 use crate::map::find_leg;
+use crate::map::leg_count;
 use leg_entry::at::stored_at;
 use link_entry::read::link_count;
 use link_entry::read::no_at;
@@ -8,35 +9,32 @@ use link_entry::read::setup_is;
 use memory::read::get_byte;
 use node_addr::Found;
 use node_addr::LinkNo;
-use node_addr::Message;
 use node_addr::Pair;
 use node_addr::place::pair_here;
 ghost use mathlib.Core.Path.{_≡_};
 ghost use mathlib.Core.Bool.{true, false};
 ghost use mathlib.Core.List.{[]};
-ghost use mathlib.Core.Option.{none};
-ghost use Prim.Native.Nat.{_+_, _*_, _<_};
-ghost use lib.ListN.{length, getD};
-ghost use Rattle.rules.specs.Base.{if_then_else_};
+ghost use Prim.Native.Nat.{_+_, _≤_, _<_};
+ghost use lib.ListN.{length, take, drop, getD};
 ghost use Rattle.rules.specs.Links.{provenAt};
 ghost use Rattle.rules.specs.Settle.{storedIn};
 ghost use Rattle.laws.specs.Chunk.{chunks};
-ghost use Rattle.node_addr.specs.View.{FitMessage, viewMessage, FitPair, viewPair};
+ghost use Rattle.node_addr.specs.View.{FitPair, viewPair};
 ghost use Rattle.link_entry.specs.View.{pathOf, FitPaths, pathCount, FitLinks, viewLinks, linkCount};
 ghost use Rattle.leg_entry.specs.View.{FitLegs, viewLegs};
-ghost use Rattle.legs.specs.Stored.{Tells, yieldOf, reach};
+ghost use Rattle.legs.specs.Stored.{Tells, yieldOf, reach, toLook};
 ghost use Rattle.legs.specs.Addresses.{linkAt};
 
-// The leg on a link, if it yields its msg2 for these bytes.
-pub fn yielding(s: &[u8], n: LinkNo, m: Message) -> Found
+// The leg on a link, if it yields its msg2 for the `len` bytes from `at` on.
+pub fn yielding(s: &[u8], n: LinkNo, rec: &[u8], at: usize, len: usize) -> Found
     requires { ⌜ FitLegs (now s) ⌝ }
-    requires { ⌜ FitMessage m ⌝ }
-    ensures { λ r. ⌜ Tells r (now (s .entry)) (yieldOf (viewMessage m) (viewLegs (now (s .entry))) (n .0)) ⌝ }
+    requires { ⌜ at + len ≤ length (now rec) ⌝ }
+    ensures { λ r. ⌜ Tells r (now (s .entry)) (yieldOf (take len (drop at (now (rec .entry)))) (viewLegs (now (s .entry))) (n .0)) ⌝ }
 {
     let Found::At(i) = find_leg(s, n) else {
         return Found::Nothing;
     };
-    if !stored_at(s, i, m) {
+    if !stored_at(s, i, rec, at, len) {
         return Found::Nothing;
     }
     Found::At(i)
@@ -56,13 +54,16 @@ fn proven_path(s: &[u8], j: usize, p: Pair) -> bool
     pair_here(s, at, p)
 }
 
-// How many addresses the i-th link has: the setup and its paths.
-fn addresses(links: &[u8], i: usize, p: Pair) -> usize
+// How many addresses of the i-th link are to be looked at, the setup and its paths: none where no leg yields.
+fn addresses(links: &[u8], i: usize, f: Found) -> usize
     requires { ⌜ FitLinks (now links) ⌝ }
     requires { ⌜ i < linkCount (now links) ⌝ }
-    ensures { λ r. ⌜ r ≡ length (reach (viewPair p) (linkAt (now (links .entry)) i)) ⌝ }
+    ensures { λ r. ⌜ r ≡ toLook f (linkAt (now (links .entry)) i) ⌝ }
 {
-    get_byte(links, i * 297 + 296) as usize + 1
+    match f {
+        Found::At(_) => get_byte(links, i * 297 + 296) as usize + 1,
+        Found::Nothing => 0,
+    }
 }
 
 // Whether the index has the i-th link at the pair by its j-th address: the setup unless released, else a path that counts.
@@ -84,48 +85,33 @@ fn reached(links: &[u8], i: usize, j: usize, p: Pair) -> bool
     proven_path(&links[from..end], j - 1, p)
 }
 
-// The leg that yields its msg2 for the i-th link, if the index has it by its j-th address.
-fn stored_by(links: &[u8], legs: &[u8], i: usize, j: usize, p: Pair, m: Message) -> Found
+// The place of the leg whose link and msg2 `stored` answers for the n bytes from `at` on. A link whose leg yields none is passed over, whatever its addresses.
+pub fn stored(links: &[u8], legs: &[u8], p: Pair, rec: &[u8], at: usize, n: usize) -> Found
     requires { ⌜ FitLinks (now links) ⌝ }
     requires { ⌜ FitLegs (now legs) ⌝ }
-    requires { ⌜ i < linkCount (now links) ⌝ }
     requires { ⌜ FitPair p ⌝ }
-    requires { ⌜ FitMessage m ⌝ }
-    requires { ⌜ j < length (reach (viewPair p) (linkAt (now links) i)) ⌝ }
-    ensures { λ r. ⌜ Tells r (now (legs .entry)) (if getD (reach (viewPair p) (linkAt (now (links .entry)) i)) j false then yieldOf (viewMessage m) (viewLegs (now (legs .entry))) (linkAt (now (links .entry)) i .no) else none) ⌝ }
+    requires { ⌜ at + n ≤ length (now rec) ⌝ }
+    ensures { λ r. ⌜ Tells r (now (legs .entry)) (storedIn (viewPair p) (take n (drop at (now (rec .entry)))) (viewLegs (now (legs .entry))) (viewLinks (now (links .entry)))) ⌝ }
 {
-    if !reached(links, i, j, p) {
+    if leg_count(legs) == 0 {
         return Found::Nothing;
     }
-    let n = no_at(links, i);
-    yielding(legs, n, m)
-}
-
-// The place of the leg whose link and msg2 `stored` answers.
-pub fn stored(links: &[u8], legs: &[u8], p: Pair, m: Message) -> Found
-    requires { ⌜ FitLinks (now links) ⌝ }
-    requires { ⌜ FitLegs (now legs) ⌝ }
-    requires { ⌜ FitPair p ⌝ }
-    requires { ⌜ FitMessage m ⌝ }
-    ensures { λ r. ⌜ Tells r (now (legs .entry)) (storedIn (viewPair p) (viewMessage m) (viewLegs (now (legs .entry))) (viewLinks (now (links .entry)))) ⌝ }
-{
-    let n = link_count(links);
+    let end = link_count(links);
     let mut i = 0;
-    let mut at = 0;
-    let mut hit = false;
-    'search: while i < n {
-        let k = addresses(links, i, p);
+    let mut found = Found::Nothing;
+    'search: while i < end {
+        let l = no_at(links, i);
+        let f = yielding(legs, l, rec, at, n);
+        let k = addresses(links, i, f);
         let mut j = 0;
         while j < k {
-            let f = stored_by(links, legs, i, j, p, m);
-            if let Found::At(g) = f {
-                at = g;
-                hit = true;
+            if reached(links, i, j, p) {
+                found = f;
                 break 'search;
             }
             j += 1;
         }
         i += 1;
     }
-    if hit { Found::At(at) } else { Found::Nothing }
+    found
 }

@@ -66,6 +66,14 @@ pub fn load_params(s: &[u8]) -> Params
     }
 }
 
+// One setting: how many answers may be pending.
+pub fn get_pending(s: &[u8]) -> u64
+    requires { ⌜ FitHead (now s) ⌝ }
+    ensures { λ r. ⌜ r ≡ paramsOf (now (s .entry)) .pending ⌝ }
+{
+    get_be(s, 82, 8)
+}
+
 // The seven spans.
 fn put_spans(s: &mut [u8], at: usize, p: Params) -> usize
     requires { ⌜ at + 56 ≤ length (now s) ⌝ }

@@ -2,6 +2,7 @@
 use node_addr::NodeAddr;
 use params::Params;
 use params::head::get_next;
+use params::head::get_pending;
 use params::head::load_me;
 use params::head::load_params;
 ghost use mathlib.Core.Path.{_≡_};
@@ -28,4 +29,12 @@ pub fn params_of(t: &[u8]) -> Params
     ensures { λ r. ⌜ viewParams r ≡ viewTable (now (t .entry)) .params ⌝ }
 {
     load_params(&t[0..98])
+}
+
+// One setting: how many answers may be pending.
+pub fn pending_of(t: &[u8]) -> u64
+    requires { ⌜ FitTable (now t) ⌝ }
+    ensures { λ r. ⌜ r ≡ viewTable (now (t .entry)) .params .pending ⌝ }
+{
+    get_pending(&t[0..98])
 }

@@ -6,7 +6,6 @@ use Prim.Native.Nat.{ℕ, _≤_, _<_}
 use lib.Dec.{leb}
 use lib.ListN.{length}
 use Rattle.rules.specs.Base.{Bytes, option, find, any}
-use Rattle.rules.specs.Time.{Params}
 use Rattle.rules.specs.Data.{Pair, samePair, LinkRec, Leg, Held, Table}
 use Rattle.rules.specs.Links.{numbered, provenAt}
 use Rattle.rules.specs.Legs as rule
@@ -91,6 +90,6 @@ module _ (h : Held) (x : Table) {k : ℕ} (q : k ≡ h .link) where
         ∙ there e
 
 -- ---- answers against the settings' pending
-pub full-is : (x : Table) {c : Params} {n : ℕ} {b : Bool} → c ≡ x .params → n ≡ rule.answering (x .legs) → b ≡ leb (c .pending) n → b ≡ full x
+pub full-is : (x : Table) {m n : ℕ} {b : Bool} → m ≡ x .params .pending → n ≡ rule.answering (x .legs) → b ≡ leb m n → b ≡ full x
 unfolding full
-full-is x {c} e q v = v ∙ ap (λ (m : ℕ). leb (c .pending) m) q ∙ ap (λ (d : Params). leb (d .pending) (rule.answering (x .legs))) e
+full-is x e q v = v ∙ rw (e, q)

@@ -1,8 +1,7 @@
 // What the rules ask of more than one map.
 use node_addr::Found;
-use node_addr::Message;
 use node_addr::Pair;
-use state::head::params_of;
+use state::head::pending_of;
 use state_held::current_is;
 use state_held::held_link;
 use state_legs::answering;
@@ -12,21 +11,21 @@ use state_links::link_proven;
 use state_links::setup_is;
 ghost use mathlib.Core.Path.{_≡_};
 ghost use mathlib.Core.Bool.{true, false};
-ghost use Prim.Native.Nat.{_<_};
-ghost use lib.ListN.{length};
+ghost use Prim.Native.Nat.{_+_, _≤_, _<_};
+ghost use lib.ListN.{length, take, drop};
 ghost use Rattle.rules.specs.Settle as settle;
-ghost use Rattle.node_addr.specs.View.{FitPair, viewPair, FitMessage, viewMessage};
+ghost use Rattle.node_addr.specs.View.{FitPair, viewPair};
 ghost use Rattle.state.specs.View.{viewTable, FitTable, nthHeld};
 ghost use Rattle.state_asks.specs.Ask.{Yields};
 
-// The place of the leg whose link and stored msg2 answer these bytes from the pair.
-pub fn stored(t: &[u8], p: Pair, m: Message) -> Found
+// The place of the leg whose link and stored msg2 answer the n bytes from `at` on, from the pair.
+pub fn stored(t: &[u8], p: Pair, rec: &[u8], at: usize, n: usize) -> Found
     requires { ⌜ FitTable (now t) ⌝ }
     requires { ⌜ FitPair p ⌝ }
-    requires { ⌜ FitMessage m ⌝ }
-    ensures { λ r. ⌜ Yields r (viewTable (now (t .entry))) (settle.stored (viewPair p) (viewMessage m) (viewTable (now (t .entry)))) ⌝ }
+    requires { ⌜ at + n ≤ length (now rec) ⌝ }
+    ensures { λ r. ⌜ Yields r (viewTable (now (t .entry))) (settle.stored (viewPair p) (take n (drop at (now (rec .entry)))) (viewTable (now (t .entry)))) ⌝ }
 {
-    legs::stored::stored(&t[98..9603], &t[9603..20836], p, m)
+    legs::stored::stored(&t[98..9603], &t[9603..20836], p, rec, at, n)
 }
 
 // Whether answers are at least the settings' pending.
@@ -34,9 +33,9 @@ pub fn full(t: &[u8]) -> bool
     requires { ⌜ FitTable (now t) ⌝ }
     ensures { λ r. ⌜ r ≡ settle.full (viewTable (now (t .entry))) ⌝ }
 {
-    let c = params_of(t);
+    let m = pending_of(t);
     let n = answering(t);
-    c.pending <= n as u64
+    m <= n as u64
 }
 
 // Whether this node dialed the link of the i-th held peer.

@@ -1,65 +1,66 @@
 -- `legs::stored::stored` meets its contract.
-use Rattle.leg_entry.specs.At.{clash}
-use mathlib.Core.Path.{_∙_, _≡_, refl}
 use Rattle.legs.specs.Addresses.{linkAt, links-count}
-use Rattle.legs.specs.Stored.{yieldOf, reach, Reaching, reaching-start, reaching-hit, reaching-skip, reaching-end, Looking, looking-start, looking-hit, looking-skip, looking-end, tells-no, tells-none, tells-on}
+use Rattle.legs.specs.Stored.{yieldOf, reach, Reaching, reaching-start, reaching-in, reaching-hit, reaching-skip, reaching-end, Looking, looking-start, looking-hit, looking-skip, looking-end, looking-none, tells-no}
 use Rattle.leg_entry.specs.View.{viewLegs}
 use Rattle.link_entry.specs.View.{viewLinks, noLink}
-use Rattle.node_addr.specs.View.{viewPair, viewMessage}
+use Rattle.node_addr.specs.declared.Found.the-variants as foundv
+use Rattle.node_addr.specs.View.{viewPair}
 use Rattle.rules.specs.Settle.{storedOn, storedIn}
+use mathlib.Core.Path.{_≡_, refl, sym, _∙_}
 use native.Mathlib.Omega.{arith}
-use mathlib.Core.Logic.{⊎-elim}
-use mathlib.Core.Bool.{false}
+use lib.ListN.{take, drop}
 use Prim.Native.Nat.{_-_}
 use borrow.Author.Needs.{needs}
 use Rattle.legs.proofs.stored.stored.Statement.{statement}
 use Rattle.legs.proofs.stored.stored.Tie as tie
 
 abbrev Inv-loop : tie.InvT-loop
-Inv-loop links legs p m n i at₀ hit₀ k j₀ at hit j = Reaching (storedOn (viewPair p) (viewMessage m) (viewLegs legs) (linkAt links i)) (yieldOf (viewMessage m) (viewLegs legs) (linkAt links i .no)) (reach (viewPair p) (linkAt links i)) k j × (hit ≡ false)
+Inv-loop links legs p rec at n end i found₀ f k j₀ found j =
+    Reaching (storedOn (viewPair p) (take n (drop at rec)) (viewLegs legs) (linkAt links i)) (yieldOf (take n (drop at rec)) (viewLegs legs) (linkAt links i .no)) f legs (reach (viewPair p) (linkAt links i)) k j
+    × (found ≡ foundv.Nothing)
 
 abbrev μ-loop : tie.MeasureT-loop
-μ-loop links legs p m n i at₀ hit₀ k j₀ at hit j = k - j
+μ-loop links legs p rec at n end i found₀ f k j₀ found j = k - j
 
 abbrev Inv-search : tie.InvT-search
-Inv-search links legs p m n i₀ at₀ hit₀ i at hit = Looking (storedIn (viewPair p) (viewMessage m) (viewLegs legs) (viewLinks links)) (viewPair p) (viewMessage m) (viewLegs legs) (viewLinks links) n i × (hit ≡ false)
+Inv-search links legs p rec at n end i₀ found₀ i found =
+    Looking (storedIn (viewPair p) (take n (drop at rec)) (viewLegs legs) (viewLinks links)) (viewPair p) (take n (drop at rec)) (viewLegs legs) (viewLinks links) end i × (found ≡ foundv.Nothing)
 
 abbrev μ-search : tie.MeasureT-search
-μ-search links legs p m n i₀ at₀ hit₀ i at hit = n - i
+μ-search links legs p rec at n end i₀ found₀ i found = end - i
+
+returns : tie.Need-returns Inv-loop μ-loop Inv-search μ-search
+returns c = tells-no (looking-none _ _ _ _ (sym (c .before .leg-count .ensures .1) ∙ c .if1 .taken))
 
 search-holds : tie.Need-search-holds Inv-loop μ-loop Inv-search μ-search
 search-holds c = (looking-start _ _ _ _ (c .link-count .ensures), refl)
 
+no-at-requires : tie.Need-no-at-requires Inv-loop μ-loop Inv-search μ-search
+no-at-requires c κs = (search needs, omega (arith, links-count (c .before .before .before .before .before .before .before .before .pre .0)))
+
 addresses-requires : tie.Need-addresses-requires Inv-loop μ-loop Inv-search μ-search
-addresses-requires c κs = (search needs, omega (arith, links-count (c .before .before .before .before .before .pre .0)))
+addresses-requires c κs = (search needs, omega (arith, links-count (c .before .before .before .before .before .before .before .before .before .before .pre .0)))
 
 loop-holds : tie.Need-loop-holds Inv-loop μ-loop Inv-search μ-search
-loop-holds c = (reaching-start _ _ _ _ (c .addresses .ensures), c .before .before .search .inv .1)
+loop-holds c = (reaching-start _ _ _ _ _ (c .before .before .no-at .ensures) (c .before .yielding .ensures) (c .addresses .ensures), c .before .before .before .before .search .inv .1)
 
-stored-by-requires : tie.Need-stored-by-requires Inv-loop μ-loop Inv-search μ-search
-stored-by-requires c κs = (search needs, (search needs, (omega (arith, links-count (c .before .before .before .before .before .before .before .before .pre .0)), (search needs, (search needs, omega arith)))))
+reached-requires : tie.Need-reached-requires Inv-loop μ-loop Inv-search μ-search
+reached-requires c κs = (search needs, (omega (arith, links-count (c .before .before .before .before .before .before .before .before .before .before .before .before .before .pre .0)), (search needs, reaching-in (c .before .loop .inv .0) (c .loop-test .taken))))
 
 loop-again : tie.Need-loop-again Inv-loop μ-loop Inv-search μ-search
-loop-again c = (reaching-skip (c .before .before .before .before .loop .inv .0) (search needs) (tells-none (c .before .before .stored-by .ensures) (c .enum-told .given .1)), c .before .before .before .before .loop .inv .1)
+loop-again c = (reaching-skip (c .before .before .before .loop .inv .0) (c .before .before .loop-test .taken) (c .before .reached .ensures) (c .if2 .left), c .before .before .before .loop .inv .1)
 
 search-again : tie.Need-search-again Inv-loop μ-loop Inv-search μ-search
-search-again c = (looking-skip (c .before .before .before .before .search .inv .0) noLink (search needs) (reaching-end (c .before .loop .inv .0) (search needs)), c .before .loop .inv .1)
-
-returns : tie.Need-returns Inv-loop μ-loop Inv-search μ-search
-returns c =
-    let inv = c .before .before .search .inv in
-    ⊎-elim
-    (λ w. absurd (clash (c .if1 .taken) (w .2 ∙ inv .1)))
-    (λ w. rw (w .8) (tells-on (w .4 .ensures) (w .6 .given .1) (λ z e. looking-hit (inv .0) noLink (w .0 .taken) (reaching-hit (w .2 .inv .0) (w .3 .taken) e))))
-    (c .before .search-test .came)
+search-again c = (looking-skip (c .before .before .before .before .before .before .search .inv .0) noLink (c .before .before .before .before .before .search-test .taken) (reaching-end (c .before .loop .inv .0) (c .loop-test .left)), c .before .loop .inv .1)
 
 returns-2 : tie.Need-returns-2 Inv-loop μ-loop Inv-search μ-search
-returns-2 c =
-    let inv = c .before .before .search .inv in
-    ⊎-elim
-    (λ w. tells-no (looking-end (inv .0) (w .0 .left)))
-    (λ w. absurd (clash (w .9) (c .if1 .left)))
-    (c .before .search-test .came)
+returns-2 c = rw (c .before .search .inv .1) (tells-no (looking-end (c .before .search .inv .0) (c .search-test .left)))
+
+returns-3 : tie.Need-returns-3 Inv-loop μ-loop Inv-search μ-search
+returns-3 c =
+    let y = c .before .before .before .before .before .before .before in
+    reaching-hit (c .before .before .before .loop .inv .0) (c .before .before .loop-test .taken) (c .before .reached .ensures) (c .if2 .taken)
+    (λ z e. looking-hit (y .before .search .inv .0) noLink (y .search-test .taken) e)
 
 pub stored-spec : {M : Type 1} → statement M
 stored-spec =
@@ -70,17 +71,19 @@ stored-spec =
     Inv-search
     μ-search
     (λ c κs. search needs)
+    returns
+    (λ c κs. search needs)
     search-holds
+    no-at-requires
+    (λ c κs. search needs)
     addresses-requires
     loop-holds
-    stored-by-requires
-    (λ c. search needs)
-    (λ c. search needs)
+    reached-requires
     (λ c. search needs)
     (λ c. search needs)
     loop-again
     (λ c. search needs)
     (λ c. search needs)
     search-again
-    returns
-    returns-2)
+    returns-2
+    returns-3)
