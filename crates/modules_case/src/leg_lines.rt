@@ -221,14 +221,14 @@ fn late_lines(s: &mut [u8])
     leg_line(s, 4);
 }
 
-// The place of the leg that yields its msg2 at the pair for the message, each told by its byte.
+// The place of the leg that yields its msg2 at the pair for the message, each told by its byte; the message stands in a record.
 fn stored_word(links: &[u8], s: &[u8], b: u8, m: u8)
     requires { ⌜ FitLinks (now links) ⌝ }
     requires { ⌜ FitLegs (now s) ⌝ }
 {
     let p = pair(7, b);
-    let x = message(m);
-    place(stored(links, s, p, x));
+    let rec = [0u8, m, 0u8];
+    place(stored(links, s, p, &rec, 1, 1));
 }
 
 // For the msg1 that was answered, for another, at another pair.

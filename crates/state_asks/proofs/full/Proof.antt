@@ -6,7 +6,7 @@ use Rattle.state_asks.proofs.full.Statement.{statement}
 use Rattle.state_asks.proofs.full.Tie as tie
 
 returns : tie.Need-returns
-returns c = full-is _ (c .before .before .pending-of .ensures) (c .before .answering .ensures) refl
+returns c = full-is _ (c .before .pending-of .ensures) (c .answering .ensures) refl
 
 pub full-spec : {M : Type 1} → statement M
 full-spec = tie.close (tie.spec (λ c κs. search needs) (λ c κs. search needs) returns)
