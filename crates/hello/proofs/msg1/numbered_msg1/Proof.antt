@@ -11,38 +11,38 @@ use Rattle.hello.proofs.msg1.numbered_msg1.Statement.{statement}
 use Rattle.hello.proofs.msg1.numbered_msg1.Tie as tie
 
 stored-requires : tie.Need-stored-requires
-stored-requires c κs = (⟨pre⟩ .0 .fit, (⟨pre⟩ .1 .0 .pair, ⟨pre⟩ .1 .0 .message .room))
+stored-requires c κs = (c .before .before .before .before .before .before .pre .0 .fit, (c .before .before .before .before .before .before .pre .1 .0 .pair, c .before .before .before .before .before .before .pre .1 .0 .message .room))
 
 repeat-requires : tie.Need-repeat-requires
 repeat-requires c κs =
-    let y = ⟨stored⟩ .ensures in
-    let e = msg1-stored _ (helloOf (now (⟨args⟩ .s)) (⟨args⟩ .h)) _ _ (yields-some y (⟨i⟩ .given .1)) in
-    (⟨pre⟩ .0 .fit, (yields-place y (⟨i⟩ .given .1), space-result (⟨pre⟩ .1 .1 .1) e))
+    let y = c .before .before .before .before .before .stored .ensures in
+    let e = msg1-stored _ (helloOf (now (c .before .before .before .before .before .before .before .before .before .before .before .before .args .s)) (c .before .before .before .before .before .before .before .before .before .before .before .before .args .h)) _ _ (yields-some y (c .before .before .before .i .given .1)) in
+    (c .before .before .before .before .before .before .before .before .before .before .before .before .pre .0 .fit, (yields-place y (c .before .before .before .i .given .1), space-result (c .before .before .before .before .before .before .before .before .before .before .before .before .pre .1 .1 .1) e))
 
 new-msg1-requires : tie.Need-new-msg1-requires
 new-msg1-requires c κs =
-    let p = ⟨pre⟩ .1 in
-    (⟨pre⟩ .0, (p .0, (p .1 .0, (yields-none (⟨stored⟩ .ensures) (⟨enum-told⟩ .given .1), p .1 .1))))
+    let p = c .before .before .before .before .before .before .before .before .before .before .before .pre .1 in
+    (c .before .before .before .before .before .before .before .before .before .before .before .pre .0, (p .0, (p .1 .0, (yields-none (c .before .before .before .before .stored .ensures) (c .before .before .enum-told .given .1), p .1 .1))))
 
 same-length : tie.Need-same-length
 same-length c = refl
 
 same-length-2 : tie.Need-same-length-2
-same-length-2 c = puts-length (⟨repeat⟩ .ensures)
+same-length-2 c = puts-length (c .before .before .repeat .ensures)
 
 returns : tie.Need-returns
 returns c =
-    ruled-is (ruled-ok (record { table = told-same (⟨pre⟩ .0 .fit); puts = ⟨repeat⟩ .ensures }))
-    (sym (msg1-stored _ (helloOf (now (⟨args⟩ .s)) (⟨args⟩ .h)) _ _ (yields-some (⟨stored⟩ .ensures) (⟨i⟩ .given .1))))
+    ruled-is (ruled-ok (record { table = told-same (c .before .before .before .before .before .before .before .before .before .before .before .before .before .before .before .pre .0 .fit); puts = c .before .before .repeat .ensures }))
+    (sym (msg1-stored _ (helloOf (now (c .before .before .before .before .before .before .before .before .before .before .before .before .before .before .before .args .s)) (c .before .before .before .before .before .before .before .before .before .before .before .before .before .before .before .args .h)) _ _ (yields-some (c .before .before .before .before .before .before .before .before .stored .ensures) (c .before .before .before .before .before .before .i .given .1))))
 
 same-length-3 : tie.Need-same-length-3
-same-length-3 c = ⟨new-msg1⟩ .ensures .did .table .fit .size ∙ sym (⟨pre⟩ .0 .fit .size)
+same-length-3 c = c .before .before .before .before .new-msg1 .ensures .did .table .fit .size ∙ sym (c .before .before .before .before .before .before .before .before .before .before .before .before .before .before .before .before .pre .0 .fit .size)
 
 same-length-4 : tie.Need-same-length-4
-same-length-4 c = puts-length (⟨new-msg1⟩ .ensures .did .puts)
+same-length-4 c = puts-length (c .before .before .before .before .new-msg1 .ensures .did .puts)
 
 returns-2 : tie.Need-returns-2
-returns-2 c = ⟨new-msg1⟩ .ensures
+returns-2 c = c .before .before .before .before .new-msg1 .ensures
 
 pub numbered-msg1-spec : {M : Type 1} → statement M
 numbered-msg1-spec =

@@ -7,19 +7,19 @@ use Rattle.hello.proofs.msg1.rekey.Statement.{statement}
 use Rattle.hello.proofs.msg1.rekey.Tie as tie
 
 attributed-requires : tie.Need-attributed-requires
-attributed-requires c κs = (⟨pre⟩ .0, (⟨pre⟩ .1 .0, ⟨pre⟩ .1 .1 .0))
+attributed-requires c κs = (c .before .before .before .before .pre .0, (c .before .before .before .before .pre .1 .0, c .before .before .before .before .pre .1 .1 .0))
 
 put-rekey-requires : tie.Need-put-rekey-requires
-put-rekey-requires c κs = rekey-room (⟨attributed⟩ .ensures) (search needs) (⟨pre⟩ .1 .1 .1)
+put-rekey-requires c κs = rekey-room (c .before .attributed .ensures) (search needs) (c .before .before .before .before .before .before .pre .1 .1 .1)
 
 put-free-requires : tie.Need-put-free-requires
-put-free-requires c κs = rekey-free (⟨attributed⟩ .ensures) (⟨pre⟩ .1 .1 .1) (⟨put-rekey⟩ .ensures)
+put-free-requires c κs = rekey-free (c .before .before .before .before .before .attributed .ensures) (c .before .before .before .before .before .before .before .before .before .before .pre .1 .1 .1) (c .before .before .before .put-rekey .ensures)
 
 same-length : tie.Need-same-length
-same-length c = wrote-length (⟨put-free⟩ .ensures) ∙ wrote-length (⟨put-rekey⟩ .ensures)
+same-length c = wrote-length (c .before .before .put-free .ensures) ∙ wrote-length (c .before .before .before .before .before .before .put-rekey .ensures)
 
 returns : tie.Need-returns
-returns c = rekey-puts (⟨attributed⟩ .ensures) (⟨put-rekey⟩ .ensures) (⟨put-free⟩ .ensures)
+returns c = rekey-puts (c .before .before .before .before .before .before .before .before .attributed .ensures) (c .before .before .before .before .before .before .put-rekey .ensures) (c .before .before .put-free .ensures)
 
 pub rekey-spec : {M : Type 1} → statement M
 rekey-spec = tie.close (tie.spec attributed-requires put-rekey-requires put-free-requires same-length returns)
