@@ -34,14 +34,17 @@ module _ (r : LinkRec) (g : Leg) (x : Table) {t : Bytes} (a : Told t (joined r g
       let l : k - 1 ≡ length (x .legs) = omega (arith, ap length legs-after, length-append (x .legs) (g ∷ [])) in
       ap (λ (i : ℕ). getD (viewTable t .legs) i noLeg) l ∙ ap (λ (s : List Leg). getD s (length (x .legs)) noLeg) legs-after ∙ getD-append-seam (x .legs) g [] noLeg
 
--- ---- the answer to y, its leg l
-module _ (x : Table) (now : ℕ) (y : Hello) (b : Bool) {c : Params} {n : ℕ} {l : Leg} (p : c ≡ x .params) (q : n ≡ x .next) (e : l ≡ answerLeg c now n y b) where
-  leg-is : l ≡ answerLeg (x .params) now (x .next) y b
-  leg-is = e ∙ ap (λ (c : Params). answerLeg c now n y b) p ∙ ap (λ (n : ℕ). answerLeg (x .params) now n y b) q
+-- ---- the leg of the next link, for y
+pub leg-is : {s c : Params} (now : ℕ) {k n : ℕ} (y : Hello) (b : Bool) {m₁ m₂ : Bytes} {l : Leg} → c ≡ s → n ≡ k → m₁ ≡ y .bytes → m₂ ≡ y .msg2
+    → l ≡ answerLeg c now n (record { peer = y .peer; from = y .from; bytes = m₁; ephemeral = y .ephemeral; epoch = y .epoch; msg2 = m₂; lease = y .lease }) b
+    → l ≡ answerLeg s now k y b
+leg-is now y b p q f g e = rw (p, q, f, g) at e
 
+-- ---- the answer to y, its leg l
+module _ (x : Table) (now : ℕ) (y : Hello) (b : Bool) {l : Leg} (e : l ≡ answerLeg (x .params) now (x .next) y b) where
   module _ {t : Bytes} (a : Told t (joined (opened (x .next) (y .from) Inbound) l x)) {k : ℕ} (z : k ≡ length (viewTable t .legs)) where
     written : nthLeg (viewTable t) (k - 1) ≡ answerLeg (x .params) now (x .next) y b
-    written = last-is (opened (x .next) (y .from) Inbound) l x a z ∙ leg-is
+    written = last-is (opened (x .next) (y .from) Inbound) l x a z ∙ e
 
     pub msg2-room : {o : Bytes} {at : ℕ} → Space o at ((answer now y b x) .outs) → at + (15 + length (answerOf (nthLeg (viewTable t) (k - 1)) .msg2)) ≤ length o
     unfolding answer answerLeg
@@ -51,6 +54,6 @@ module _ (x : Table) (now : ℕ) (y : Hello) (b : Bool) {c : Params} {n : ℕ} {
         → Wrote o at j (outputRecord (Output.Answer (nthLeg (viewTable t) (k - 1) .link) false (answerOf (nthLeg (viewTable t) (k - 1)) .msg2))) o₁ r → Did o at t o₁ r (answer now y b x)
     unfolding answer answerLeg
     answer-did {o} {at} {j} {o₁} {r} w = record {
-      table = told-is a (ap (λ (g : Leg). joined (opened (x .next) (y .from) Inbound) g x) leg-is);
+      table = told-is a (ap (λ (g : Leg). joined (opened (x .next) (y .from) Inbound) g x) e);
       puts = puts-one _ (subst (λ (g : Leg). Wrote o at j (outputRecord (Output.Answer (g .link) false (answerOf g .msg2))) o₁ r) written w);
     }

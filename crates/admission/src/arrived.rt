@@ -1,9 +1,9 @@
 // A msg1 before it is read: what is known of it by its pair and its bytes.
 use crate::put::put_msg2;
+use fields::Span;
 use memories::Denial;
 use memories::Source;
 use node_addr::Found;
-use node_addr::Message;
 use node_addr::NodeAddr;
 use node_addr::Pair;
 use output::put::put_reject;
@@ -14,7 +14,8 @@ ghost use mathlib.Core.List.{[], _∷_};
 ghost use Rattle.rules.specs.Base.{if_then_else_};
 ghost use Rattle.rules.specs.Data.{Full, Reject};
 ghost use Rattle.rules.specs.Settle as rule;
-ghost use Rattle.node_addr.specs.View.{FitPair, viewPair, FitMessage, viewMessage};
+ghost use Rattle.node_addr.specs.View.{FitPair, viewPair};
+ghost use Rattle.fields.specs.Field.{FitSpan, spanOf};
 ghost use Rattle.output.specs.Write.{Puts};
 ghost use Rattle.state.specs.View.{viewTable, FitTable};
 ghost use Rattle.steps.specs.Did.{Space, Did};
@@ -32,14 +33,14 @@ fn put_full(t: &[u8], out: &mut [u8], at: usize) -> usize
     at
 }
 
-pub fn arrived(t: &[u8], out: &mut [u8], at: usize, from: Pair, bytes: Message) -> usize
+pub fn arrived(t: &[u8], out: &mut [u8], at: usize, from: Pair, s: &[u8], m: Span) -> usize
     requires { ⌜ FitTable (now t) ⌝ }
     requires { ⌜ FitPair from ⌝ }
-    requires { ⌜ FitMessage bytes ⌝ }
-    requires { ⌜ Space (now out) at ((rule.arrived (viewPair from) (viewMessage bytes) (viewTable (now t))) .outs) ⌝ }
-    ensures { λ r. ⌜ Did (now (out .entry)) at (now (t .entry)) (now (out .exit)) r (rule.arrived (viewPair from) (viewMessage bytes) (viewTable (now (t .entry)))) ⌝ }
+    requires { ⌜ FitSpan (now s) m ⌝ }
+    requires { ⌜ Space (now out) at ((rule.arrived (viewPair from) (spanOf (now s) m) (viewTable (now t))) .outs) ⌝ }
+    ensures { λ r. ⌜ Did (now (out .entry)) at (now (t .entry)) (now (out .exit)) r (rule.arrived (viewPair from) (spanOf (now (s .entry)) m) (viewTable (now (t .entry)))) ⌝ }
 {
-    match stored(t, from, bytes) {
+    match stored(t, from, s, m.at, m.len) {
         Found::At(i) => put_msg2(t, out, at, i, true),
         Found::Nothing => put_full(t, out, at),
     }

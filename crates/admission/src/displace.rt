@@ -1,6 +1,6 @@
 // A held peer whose msg1 is admitted: its holder goes, and the msg1 is answered.
 use crate::answer::answer;
-use calls::Call;
+use calls::Hello;
 use codes::Why;
 use ending::peer::remove_at;
 use memories::Source;
@@ -14,9 +14,8 @@ ghost use Prim.Native.Nat.{_+_, _<_, _^_};
 ghost use lib.ListN.{length};
 ghost use Rattle.rules.specs.Settle as rule;
 ghost use Rattle.rules.specs.Settle.{_▸_};
-ghost use Rattle.node_addr.specs.View.{FitPair, FitMessage};
 ghost use Rattle.memories.specs.View.{sourceOf};
-ghost use Rattle.calls.specs.Call.{helloOf};
+ghost use Rattle.calls.specs.Hello.{helloOf, FitHello};
 ghost use Rattle.codes.specs.Codes.{whyOf};
 ghost use Rattle.state.specs.View.{viewTable, Told, nthHeld};
 ghost use Rattle.steps.specs.Did.{Space, Did};
@@ -53,26 +52,25 @@ pub fn displace(
     out: &mut [u8],
     at: usize,
     i: usize,
-    h: Call,
+    s: &[u8],
+    h: Hello,
     source: Source,
     clock: u64,
 ) -> usize
     requires { ⌜ Ready (now t) ⌝ }
-    requires { ⌜ FitPair (h .pair) ⌝ }
-    requires { ⌜ FitMessage (h .message) ⌝ }
-    requires { ⌜ FitMessage (h .msg2) ⌝ }
+    requires { ⌜ FitHello (now s) h ⌝ }
     requires { ⌜ i < length (viewTable (now t) .held) ⌝ }
     requires { ⌜ rule.heldAt (h .peer .0) (viewTable (now t)) ≡ some (nthHeld (viewTable (now t)) i) ⌝ }
     requires { ⌜ viewTable (now t) .next + 1 < 2 ^ 64 ⌝ }
     requires { ⌜ Space (now out) at ((rule.removed clock (h .peer .0) (rule.displaces (sourceOf source)) (nthHeld (viewTable (now t)) i) (rule.stamp clock (nthHeld (viewTable (now t)) i) (viewTable (now t)))
-        ▸ rule.answer clock (helloOf h) true) .outs) ⌝ }
+        ▸ rule.answer clock (helloOf (now s) h) true) .outs) ⌝ }
     ensures { λ r. ⌜ Did (now (out .entry)) at (now (t .exit)) (now (out .exit)) r
         (rule.removed clock (h .peer .0) (rule.displaces (sourceOf source)) (nthHeld (viewTable (now (t .entry))) i) (rule.stamp clock (nthHeld (viewTable (now (t .entry))) i) (viewTable (now (t .entry))))
-        ▸ rule.answer clock (helloOf h) true) ⌝ }
+        ▸ rule.answer clock (helloOf (now (s .entry)) h) true) ⌝ }
 {
     let peer = h.peer;
     let why = displaces(source);
     stamp_at(t, i, peer, clock);
     let a = remove_at(t, out, at, i, peer, why, clock);
-    answer(t, out, a, h, true, clock)
+    answer(t, out, a, s, h, true, clock)
 }

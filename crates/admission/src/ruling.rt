@@ -1,45 +1,39 @@
-// Whether a msg1 is admitted.
-use calls::Call;
+// Whether a msg1 is admitted. The ruling reads the peer, the digest and the epoch of it.
 use memories::Denial;
 use memories::Liveness;
 use memories::Source;
 use memories::Verdict;
-use node_addr::Found;
+use node_addr::Digest;
 use node_addr::NodeAddr;
 use state::head::params_of;
 use state_asks::full;
 use state_gates::judged;
-use state_held::find_held;
 use state_held::held_dated;
 use state_held::held_heard;
 use state_held::held_installed;
 use state_held::held_last;
 ghost use mathlib.Core.Path.{_≡_};
+ghost use mathlib.Core.Bool.{false};
+ghost use mathlib.Core.Option.{none, some};
+ghost use Prim.Native.Nat.{_<_};
+ghost use lib.ListN.{length};
+ghost use Rattle.rules.specs.Data as shape;
 ghost use Rattle.rules.specs.Settle as rule;
 ghost use Rattle.memories.specs.View.{sourceOf};
-ghost use Rattle.calls.specs.Call.{helloOf};
-ghost use Rattle.state.specs.View.{viewTable, FitTable};
-ghost use Rattle.admission.specs.Ruling.{deniedBy, Lives};
+ghost use Rattle.state.specs.View.{viewTable, FitTable, nthHeld};
+ghost use Rattle.admission.specs.Ruling.{deniedBy, Lives, asks};
 
 pub enum Ruling {
     Admit,
     Deny(Denial),
 }
 
-// What is judged of the holder, if the peer is held.
-fn liveness_of(t: &[u8], peer: NodeAddr) -> Liveness
+// What is judged of the i-th holder.
+fn liveness_at(t: &[u8], i: usize) -> Liveness
     requires { ⌜ FitTable (now t) ⌝ }
-    ensures { λ r. ⌜ Lives r (rule.heldAt (peer .0) (viewTable (now (t .entry)))) ⌝ }
+    requires { ⌜ i < length (viewTable (now t) .held) ⌝ }
+    ensures { λ r. ⌜ Lives r (some (nthHeld (viewTable (now (t .entry))) i)) ⌝ }
 {
-    let Found::At(i) = find_held(t, peer) else {
-        return Liveness {
-            held: false,
-            heard: false,
-            installed: 0,
-            dated: false,
-            last: 0,
-        };
-    };
     let heard = held_heard(t, i);
     let installed = held_installed(t, i);
     let dated = held_dated(t, i);
@@ -53,21 +47,65 @@ fn liveness_of(t: &[u8], peer: NodeAddr) -> Liveness
     }
 }
 
-// Full, else what the gate says.
-pub fn denied(t: &[u8], h: Call, source: Source, clock: u64) -> Ruling
+// What the gate says, where the table is not full; `l` is what is judged of the peer's holder, if it has one.
+fn gated(
+    t: &[u8],
+    l: Liveness,
+    peer: NodeAddr,
+    digest: Digest,
+    epoch: u64,
+    source: Source,
+    clock: u64,
+) -> Ruling
     requires { ⌜ FitTable (now t) ⌝ }
-    ensures { λ r. ⌜ deniedBy r ≡ rule.denied clock (sourceOf source) (helloOf h) (viewTable (now (t .entry))) ⌝ }
+    requires { ⌜ rule.full (viewTable (now t)) ≡ false ⌝ }
+    requires { ⌜ Lives l (rule.heldAt (peer .0) (viewTable (now t))) ⌝ }
+    ensures { λ r. ⌜ deniedBy r ≡ rule.denied clock (sourceOf source) (asks (peer .0) (digest .0) epoch) (viewTable (now (t .entry))) ⌝ }
 {
-    if full(t) {
-        return Ruling::Deny(Denial::Full);
-    }
-    let peer = h.peer;
-    let digest = h.digest;
-    let epoch = h.epoch;
     let c = params_of(t);
-    let l = liveness_of(t, peer);
     match judged(t, peer, source, l, digest, epoch, clock, c) {
         Verdict::Pass => Ruling::Admit,
         Verdict::Refuse(r) => Ruling::Deny(Denial::Gate(r)),
     }
+}
+
+// On a msg1 of the peer whose holder is the i-th: Full, else what the gate says.
+pub fn denied(
+    t: &[u8],
+    i: usize,
+    peer: NodeAddr,
+    digest: Digest,
+    epoch: u64,
+    source: Source,
+    clock: u64,
+) -> Ruling
+    requires { ⌜ FitTable (now t) ⌝ }
+    requires { ⌜ i < length (viewTable (now t) .held) ⌝ }
+    requires { ⌜ rule.heldAt (peer .0) (viewTable (now t)) ≡ some (nthHeld (viewTable (now t)) i) ⌝ }
+    ensures { λ r. ⌜ deniedBy r ≡ rule.denied clock (sourceOf source) (asks (peer .0) (digest .0) epoch) (viewTable (now (t .entry))) ⌝ }
+{
+    if full(t) {
+        return Ruling::Deny(Denial::Full);
+    }
+    let l = liveness_at(t, i);
+    gated(t, l, peer, digest, epoch, source, clock)
+}
+
+// The same of a peer that is not held.
+pub fn denied_new(t: &[u8], peer: NodeAddr, digest: Digest, epoch: u64, clock: u64) -> Ruling
+    requires { ⌜ FitTable (now t) ⌝ }
+    requires { ⌜ rule.heldAt (peer .0) (viewTable (now t)) ≡ none ⌝ }
+    ensures { λ r. ⌜ deniedBy r ≡ rule.denied clock shape.Source.NotHeld (asks (peer .0) (digest .0) epoch) (viewTable (now (t .entry))) ⌝ }
+{
+    if full(t) {
+        return Ruling::Deny(Denial::Full);
+    }
+    let l = Liveness {
+        held: false,
+        heard: false,
+        installed: 0,
+        dated: false,
+        last: 0,
+    };
+    gated(t, l, peer, digest, epoch, Source::NotHeld, clock)
 }

@@ -4,7 +4,8 @@ use admission::displace::displace;
 use admission::put::reject;
 use admission::ruling::Ruling;
 use admission::ruling::denied;
-use calls::Call;
+use admission::ruling::denied_new;
+use calls::Hello;
 use memories::Source;
 use node_addr::Found;
 use places::entering;
@@ -17,30 +18,27 @@ ghost use Prim.Native.Nat.{_+_, _<_, _^_};
 ghost use lib.ListN.{length};
 ghost use Rattle.rules.specs.Data as shape;
 ghost use Rattle.rules.specs.Settle as rule;
-ghost use Rattle.node_addr.specs.View.{FitPair, FitMessage};
 ghost use Rattle.memories.specs.View.{sourceOf};
-ghost use Rattle.calls.specs.Call.{helloOf};
+ghost use Rattle.calls.specs.Hello.{helloOf, FitHello};
 ghost use Rattle.state.specs.View.{viewTable, nthHeld};
 ghost use Rattle.steps.specs.Did.{Space, Ruled};
 ghost use Rattle.steps.specs.Sound.{Ready};
 
 // A peer that is not held needs room.
-fn enter(t: &mut [u8], out: &mut [u8], at: usize, h: Call, clock: u64) -> Answer
+fn enter(t: &mut [u8], out: &mut [u8], at: usize, s: &[u8], h: Hello, clock: u64) -> Answer
     requires { ⌜ Ready (now t) ⌝ }
-    requires { ⌜ FitPair (h .pair) ⌝ }
-    requires { ⌜ FitMessage (h .message) ⌝ }
-    requires { ⌜ FitMessage (h .msg2) ⌝ }
+    requires { ⌜ FitHello (now s) h ⌝ }
     requires { ⌜ viewTable (now t) .next + 1 < 2 ^ 64 ⌝ }
-    requires { ⌜ Space (now out) at ((rule.entering (h .peer .0) (viewTable (now t)) (rule.ok (rule.answer clock (helloOf h) false (viewTable (now t))))) .step .outs) ⌝ }
+    requires { ⌜ Space (now out) at ((rule.entering (h .peer .0) (viewTable (now t)) (rule.ok (rule.answer clock (helloOf (now s) h) false (viewTable (now t))))) .step .outs) ⌝ }
     ensures { λ r. ⌜ Ruled (now (t .entry)) (now (out .entry)) at (now (t .exit)) (now (out .exit)) (r .number) (r .len)
-        (rule.entering (h .peer .0) (viewTable (now (t .entry))) (rule.ok (rule.answer clock (helloOf h) false (viewTable (now (t .entry)))))) ⌝ }
+        (rule.entering (h .peer .0) (viewTable (now (t .entry))) (rule.ok (rule.answer clock (helloOf (now (s .entry)) h) false (viewTable (now (t .entry)))))) ⌝ }
 {
     let peer = h.peer;
     let n = entering(t, peer);
     if n != 0 {
         return Answer { number: n, len: at };
     }
-    let len = answer(t, out, at, h, false, clock);
+    let len = answer(t, out, at, s, h, false, clock);
     Answer {
         number: 0,
         len: len,
@@ -48,21 +46,20 @@ fn enter(t: &mut [u8], out: &mut [u8], at: usize, h: Call, clock: u64) -> Answer
 }
 
 // A peer that is not held is judged, and rejected, as such.
-fn admit_new(t: &mut [u8], out: &mut [u8], at: usize, h: Call, clock: u64) -> Answer
+pub fn admit_new(t: &mut [u8], out: &mut [u8], at: usize, s: &[u8], h: Hello, clock: u64) -> Answer
     requires { ⌜ Ready (now t) ⌝ }
-    requires { ⌜ FitPair (h .pair) ⌝ }
-    requires { ⌜ FitMessage (h .message) ⌝ }
-    requires { ⌜ FitMessage (h .msg2) ⌝ }
+    requires { ⌜ FitHello (now s) h ⌝ }
     requires { ⌜ viewTable (now t) .next + 1 < 2 ^ 64 ⌝ }
     requires { ⌜ rule.heldAt (h .peer .0) (viewTable (now t)) ≡ none ⌝ }
-    requires { ⌜ Space (now out) at ((rule.admit clock shape.Source.NotHeld (helloOf h) (viewTable (now t))) .step .outs) ⌝ }
+    requires { ⌜ Space (now out) at ((rule.admit clock shape.Source.NotHeld (helloOf (now s) h) (viewTable (now t))) .step .outs) ⌝ }
     ensures { λ r. ⌜ Ruled (now (t .entry)) (now (out .entry)) at (now (t .exit)) (now (out .exit)) (r .number) (r .len)
-        (rule.admit clock shape.Source.NotHeld (helloOf h) (viewTable (now (t .entry)))) ⌝ }
+        (rule.admit clock shape.Source.NotHeld (helloOf (now (s .entry)) h) (viewTable (now (t .entry)))) ⌝ }
 {
-    match denied(t, h, Source::NotHeld, clock) {
-        Ruling::Admit => enter(t, out, at, h, clock),
+    let peer = h.peer;
+    let digest = h.digest;
+    match denied_new(t, peer, digest, h.epoch, clock) {
+        Ruling::Admit => enter(t, out, at, s, h, clock),
         Ruling::Deny(why) => {
-            let peer = h.peer;
             let len = reject(out, at, peer, Source::NotHeld, why, h.lease);
             Answer {
                 number: 0,
@@ -73,36 +70,36 @@ fn admit_new(t: &mut [u8], out: &mut [u8], at: usize, h: Call, clock: u64) -> An
 }
 
 // The i-th holder is the peer's.
-fn admit_held(
+pub fn admit_held(
     t: &mut [u8],
     out: &mut [u8],
     at: usize,
     i: usize,
-    h: Call,
+    s: &[u8],
+    h: Hello,
     source: Source,
     clock: u64,
 ) -> Answer
     requires { ⌜ Ready (now t) ⌝ }
-    requires { ⌜ FitPair (h .pair) ⌝ }
-    requires { ⌜ FitMessage (h .message) ⌝ }
-    requires { ⌜ FitMessage (h .msg2) ⌝ }
+    requires { ⌜ FitHello (now s) h ⌝ }
     requires { ⌜ i < length (viewTable (now t) .held) ⌝ }
     requires { ⌜ rule.heldAt (h .peer .0) (viewTable (now t)) ≡ some (nthHeld (viewTable (now t)) i) ⌝ }
     requires { ⌜ viewTable (now t) .next + 1 < 2 ^ 64 ⌝ }
-    requires { ⌜ Space (now out) at ((rule.admit clock (sourceOf source) (helloOf h) (viewTable (now t))) .step .outs) ⌝ }
+    requires { ⌜ Space (now out) at ((rule.admit clock (sourceOf source) (helloOf (now s) h) (viewTable (now t))) .step .outs) ⌝ }
     ensures { λ r. ⌜ Ruled (now (t .entry)) (now (out .entry)) at (now (t .exit)) (now (out .exit)) (r .number) (r .len)
-        (rule.admit clock (sourceOf source) (helloOf h) (viewTable (now (t .entry)))) ⌝ }
+        (rule.admit clock (sourceOf source) (helloOf (now (s .entry)) h) (viewTable (now (t .entry)))) ⌝ }
 {
-    match denied(t, h, source, clock) {
+    let peer = h.peer;
+    let digest = h.digest;
+    match denied(t, i, peer, digest, h.epoch, source, clock) {
         Ruling::Admit => {
-            let len = displace(t, out, at, i, h, source, clock);
+            let len = displace(t, out, at, i, s, h, source, clock);
             Answer {
                 number: 0,
                 len: len,
             }
         }
         Ruling::Deny(why) => {
-            let peer = h.peer;
             let len = reject(out, at, peer, source, why, h.lease);
             Answer {
                 number: 0,
@@ -113,19 +110,17 @@ fn admit_held(
 }
 
 // The msg1 is from `source` if its peer is held.
-pub fn admit(t: &mut [u8], out: &mut [u8], at: usize, h: Call, source: Source, clock: u64) -> Answer
+pub fn admit(t: &mut [u8], out: &mut [u8], at: usize, s: &[u8], h: Hello, source: Source, clock: u64) -> Answer
     requires { ⌜ Ready (now t) ⌝ }
-    requires { ⌜ FitPair (h .pair) ⌝ }
-    requires { ⌜ FitMessage (h .message) ⌝ }
-    requires { ⌜ FitMessage (h .msg2) ⌝ }
+    requires { ⌜ FitHello (now s) h ⌝ }
     requires { ⌜ viewTable (now t) .next + 1 < 2 ^ 64 ⌝ }
-    requires { ⌜ Space (now out) at ((rule.admit clock (sourceOf source) (helloOf h) (viewTable (now t))) .step .outs) ⌝ }
+    requires { ⌜ Space (now out) at ((rule.admit clock (sourceOf source) (helloOf (now s) h) (viewTable (now t))) .step .outs) ⌝ }
     ensures { λ r. ⌜ Ruled (now (t .entry)) (now (out .entry)) at (now (t .exit)) (now (out .exit)) (r .number) (r .len)
-        (rule.admit clock (sourceOf source) (helloOf h) (viewTable (now (t .entry)))) ⌝ }
+        (rule.admit clock (sourceOf source) (helloOf (now (s .entry)) h) (viewTable (now (t .entry)))) ⌝ }
 {
     let peer = h.peer;
     match find_held(t, peer) {
-        Found::At(i) => admit_held(t, out, at, i, h, source, clock),
-        Found::Nothing => admit_new(t, out, at, h, clock),
+        Found::At(i) => admit_held(t, out, at, i, s, h, source, clock),
+        Found::Nothing => admit_new(t, out, at, s, h, clock),
     }
 }

@@ -1,7 +1,9 @@
 // The calls of a msg1: one that came before is answered as then, one of the same session is a rekey, any other asks to be admitted.
 use crate::admit::admit;
+use crate::admit::admit_held;
+use crate::admit::admit_new;
 use admission::put::put_msg2;
-use calls::Call;
+use calls::Hello;
 use memories::Source;
 use node_addr::Found;
 use output::put::put_free;
@@ -21,9 +23,9 @@ ghost use lib.ListN.{length};
 ghost use Rattle.rules.specs.Data as shape;
 ghost use Rattle.rules.specs.Data.{Output, Rekey, Free};
 ghost use Rattle.rules.specs.Settle as rule;
-ghost use Rattle.node_addr.specs.View.{FitPair, viewPair, FitMessage};
+ghost use Rattle.node_addr.specs.View.{FitPair, viewPair};
 ghost use Rattle.legs.specs.At.{answerOf};
-ghost use Rattle.calls.specs.Call.{helloOf};
+ghost use Rattle.calls.specs.Hello.{helloOf, FitHello};
 ghost use Rattle.output.specs.Write.{Puts};
 ghost use Rattle.state.specs.View.{viewTable, FitTable, nthLeg, nthHeld};
 ghost use Rattle.steps.specs.Did.{Space, Ruled};
@@ -41,40 +43,38 @@ fn repeat(t: &[u8], out: &mut [u8], at: usize, i: usize, lease: u32) -> usize
 }
 
 // The i-th held peer rekeys.
-fn rekey(t: &[u8], out: &mut [u8], at: usize, i: usize, h: Call) -> usize
+fn rekey(t: &[u8], out: &mut [u8], at: usize, i: usize, h: Hello, reachable: bool) -> usize
     requires { ⌜ FitTable (now t) ⌝ }
     requires { ⌜ i < length (viewTable (now t) .held) ⌝ }
     requires { ⌜ FitPair (h .pair) ⌝ }
-    requires { ⌜ Space (now out) at (Rekey (h .peer .0) (rule.attributed (nthHeld (viewTable (now t)) i) (viewPair (h .pair)) (viewTable (now t))) (h .flag) ∷ Free (h .lease) ∷ []) ⌝ }
-    ensures { λ r. ⌜ Puts (now (out .entry)) at (Rekey (h .peer .0) (rule.attributed (nthHeld (viewTable (now (t .entry))) i) (viewPair (h .pair)) (viewTable (now (t .entry)))) (h .flag) ∷ Free (h .lease) ∷ [])
+    requires { ⌜ Space (now out) at (Rekey (h .peer .0) (rule.attributed (nthHeld (viewTable (now t)) i) (viewPair (h .pair)) (viewTable (now t))) reachable ∷ Free (h .lease) ∷ []) ⌝ }
+    ensures { λ r. ⌜ Puts (now (out .entry)) at (Rekey (h .peer .0) (rule.attributed (nthHeld (viewTable (now (t .entry))) i) (viewPair (h .pair)) (viewTable (now (t .entry)))) reachable ∷ Free (h .lease) ∷ [])
         (now (out .exit)) r ⌝ }
 {
     let peer = h.peer;
     let pair = h.pair;
     let on_link = attributed(t, i, pair);
-    let a = put_rekey(out, at, peer, on_link, h.flag);
+    let a = put_rekey(out, at, peer, on_link, reachable);
     put_free(out, a, h.lease)
 }
 
 // The i-th holder is the peer's: the same epoch is a rekey, another a restart.
-fn held_msg1(t: &mut [u8], out: &mut [u8], at: usize, i: usize, h: Call, clock: u64) -> Answer
+fn held_msg1(t: &mut [u8], out: &mut [u8], at: usize, i: usize, s: &[u8], h: Hello, reachable: bool, clock: u64) -> Answer
     requires { ⌜ Ready (now t) ⌝ }
-    requires { ⌜ FitPair (h .pair) ⌝ }
-    requires { ⌜ FitMessage (h .message) ⌝ }
-    requires { ⌜ FitMessage (h .msg2) ⌝ }
+    requires { ⌜ FitHello (now s) h ⌝ }
     requires { ⌜ viewTable (now t) .next + 1 < 2 ^ 64 ⌝ }
-    requires { ⌜ rule.stored (helloOf h .from) (helloOf h .bytes) (viewTable (now t)) ≡ none ⌝ }
+    requires { ⌜ rule.stored (helloOf (now s) h .from) (helloOf (now s) h .bytes) (viewTable (now t)) ≡ none ⌝ }
     requires { ⌜ i < length (viewTable (now t) .held) ⌝ }
     requires { ⌜ rule.heldAt (h .peer .0) (viewTable (now t)) ≡ some (nthHeld (viewTable (now t)) i) ⌝ }
-    requires { ⌜ Space (now out) at ((rule.msg1 clock (helloOf h) (h .flag) (viewTable (now t))) .step .outs) ⌝ }
+    requires { ⌜ Space (now out) at ((rule.msg1 clock (helloOf (now s) h) reachable (viewTable (now t))) .step .outs) ⌝ }
     ensures { λ r. ⌜ Ruled (now (t .entry)) (now (out .entry)) at (now (t .exit)) (now (out .exit)) (r .number) (r .len)
-        (rule.msg1 clock (helloOf h) (h .flag) (viewTable (now (t .entry)))) ⌝ }
+        (rule.msg1 clock (helloOf (now (s .entry)) h) reachable (viewTable (now (t .entry)))) ⌝ }
 {
     let e = held_epoch(t, i);
     if e != h.epoch {
-        return admit(t, out, at, h, Source::Restart, clock);
+        return admit_held(t, out, at, i, s, h, Source::Restart, clock);
     }
-    let len = rekey(t, out, at, i, h);
+    let len = rekey(t, out, at, i, h, reachable);
     Answer {
         number: 0,
         len: len,
@@ -82,38 +82,34 @@ fn held_msg1(t: &mut [u8], out: &mut [u8], at: usize, i: usize, h: Call, clock: 
 }
 
 // No msg2 is stored for it.
-fn new_msg1(t: &mut [u8], out: &mut [u8], at: usize, h: Call, clock: u64) -> Answer
+fn new_msg1(t: &mut [u8], out: &mut [u8], at: usize, s: &[u8], h: Hello, reachable: bool, clock: u64) -> Answer
     requires { ⌜ Ready (now t) ⌝ }
-    requires { ⌜ FitPair (h .pair) ⌝ }
-    requires { ⌜ FitMessage (h .message) ⌝ }
-    requires { ⌜ FitMessage (h .msg2) ⌝ }
+    requires { ⌜ FitHello (now s) h ⌝ }
     requires { ⌜ viewTable (now t) .next + 1 < 2 ^ 64 ⌝ }
-    requires { ⌜ rule.stored (helloOf h .from) (helloOf h .bytes) (viewTable (now t)) ≡ none ⌝ }
-    requires { ⌜ Space (now out) at ((rule.msg1 clock (helloOf h) (h .flag) (viewTable (now t))) .step .outs) ⌝ }
+    requires { ⌜ rule.stored (helloOf (now s) h .from) (helloOf (now s) h .bytes) (viewTable (now t)) ≡ none ⌝ }
+    requires { ⌜ Space (now out) at ((rule.msg1 clock (helloOf (now s) h) reachable (viewTable (now t))) .step .outs) ⌝ }
     ensures { λ r. ⌜ Ruled (now (t .entry)) (now (out .entry)) at (now (t .exit)) (now (out .exit)) (r .number) (r .len)
-        (rule.msg1 clock (helloOf h) (h .flag) (viewTable (now (t .entry)))) ⌝ }
+        (rule.msg1 clock (helloOf (now (s .entry)) h) reachable (viewTable (now (t .entry)))) ⌝ }
 {
     let peer = h.peer;
     match find_held(t, peer) {
-        Found::At(i) => held_msg1(t, out, at, i, h, clock),
-        Found::Nothing => admit(t, out, at, h, Source::NotHeld, clock),
+        Found::At(i) => held_msg1(t, out, at, i, s, h, reachable, clock),
+        Found::Nothing => admit_new(t, out, at, s, h, clock),
     }
 }
 
 // A number is left for one more link.
-fn numbered_msg1(t: &mut [u8], out: &mut [u8], at: usize, h: Call, clock: u64) -> Answer
+fn numbered_msg1(t: &mut [u8], out: &mut [u8], at: usize, s: &[u8], h: Hello, reachable: bool, clock: u64) -> Answer
     requires { ⌜ Ready (now t) ⌝ }
-    requires { ⌜ FitPair (h .pair) ⌝ }
-    requires { ⌜ FitMessage (h .message) ⌝ }
-    requires { ⌜ FitMessage (h .msg2) ⌝ }
+    requires { ⌜ FitHello (now s) h ⌝ }
     requires { ⌜ viewTable (now t) .next + 1 < 2 ^ 64 ⌝ }
-    requires { ⌜ Space (now out) at ((rule.msg1 clock (helloOf h) (h .flag) (viewTable (now t))) .step .outs) ⌝ }
+    requires { ⌜ Space (now out) at ((rule.msg1 clock (helloOf (now s) h) reachable (viewTable (now t))) .step .outs) ⌝ }
     ensures { λ r. ⌜ Ruled (now (t .entry)) (now (out .entry)) at (now (t .exit)) (now (out .exit)) (r .number) (r .len)
-        (rule.msg1 clock (helloOf h) (h .flag) (viewTable (now (t .entry)))) ⌝ }
+        (rule.msg1 clock (helloOf (now (s .entry)) h) reachable (viewTable (now (t .entry)))) ⌝ }
 {
     let pair = h.pair;
-    let bytes = h.message;
-    match stored(t, pair, bytes) {
+    let m = h.message;
+    match stored(t, pair, s, m.at, m.len) {
         Found::At(i) => {
             let len = repeat(t, out, at, i, h.lease);
             Answer {
@@ -121,38 +117,34 @@ fn numbered_msg1(t: &mut [u8], out: &mut [u8], at: usize, h: Call, clock: u64) -
                 len: len,
             }
         }
-        Found::Nothing => new_msg1(t, out, at, h, clock),
+        Found::Nothing => new_msg1(t, out, at, s, h, reachable, clock),
     }
 }
 
-// A msg1 that was read and verified; the flag says whether its peer is reachable.
-pub fn msg1(t: &mut [u8], out: &mut [u8], at: usize, h: Call, clock: u64) -> Answer
+// A msg1 that was read and verified; `reachable` says whether its peer is.
+pub fn msg1(t: &mut [u8], out: &mut [u8], at: usize, s: &[u8], h: Hello, reachable: bool, clock: u64) -> Answer
     requires { ⌜ Ready (now t) ⌝ }
-    requires { ⌜ FitPair (h .pair) ⌝ }
-    requires { ⌜ FitMessage (h .message) ⌝ }
-    requires { ⌜ FitMessage (h .msg2) ⌝ }
-    requires { ⌜ Space (now out) at ((rule.step clock (shape.Call.Msg1 (helloOf h) (h .flag)) (viewTable (now t))) .step .outs) ⌝ }
+    requires { ⌜ FitHello (now s) h ⌝ }
+    requires { ⌜ Space (now out) at ((rule.step clock (shape.Call.Msg1 (helloOf (now s) h) reachable) (viewTable (now t))) .step .outs) ⌝ }
     ensures { λ r. ⌜ Ruled (now (t .entry)) (now (out .entry)) at (now (t .exit)) (now (out .exit)) (r .number) (r .len)
-        (rule.step clock (shape.Call.Msg1 (helloOf h) (h .flag)) (viewTable (now (t .entry)))) ⌝ }
+        (rule.step clock (shape.Call.Msg1 (helloOf (now (s .entry)) h) reachable) (viewTable (now (t .entry)))) ⌝ }
 {
     if exhausted(t) {
         return Answer { number: 4, len: at };
     }
-    numbered_msg1(t, out, at, h, clock)
+    numbered_msg1(t, out, at, s, h, reachable, clock)
 }
 
 // A msg1 that is to replace the peer's session.
-pub fn replacement(t: &mut [u8], out: &mut [u8], at: usize, h: Call, clock: u64) -> Answer
+pub fn replacement(t: &mut [u8], out: &mut [u8], at: usize, s: &[u8], h: Hello, clock: u64) -> Answer
     requires { ⌜ Ready (now t) ⌝ }
-    requires { ⌜ FitPair (h .pair) ⌝ }
-    requires { ⌜ FitMessage (h .message) ⌝ }
-    requires { ⌜ FitMessage (h .msg2) ⌝ }
-    requires { ⌜ Space (now out) at ((rule.step clock (shape.Call.Replacement (helloOf h)) (viewTable (now t))) .step .outs) ⌝ }
+    requires { ⌜ FitHello (now s) h ⌝ }
+    requires { ⌜ Space (now out) at ((rule.step clock (shape.Call.Replacement (helloOf (now s) h)) (viewTable (now t))) .step .outs) ⌝ }
     ensures { λ r. ⌜ Ruled (now (t .entry)) (now (out .entry)) at (now (t .exit)) (now (out .exit)) (r .number) (r .len)
-        (rule.step clock (shape.Call.Replacement (helloOf h)) (viewTable (now (t .entry)))) ⌝ }
+        (rule.step clock (shape.Call.Replacement (helloOf (now (s .entry)) h)) (viewTable (now (t .entry)))) ⌝ }
 {
     if exhausted(t) {
         return Answer { number: 4, len: at };
     }
-    admit(t, out, at, h, Source::Replacement, clock)
+    admit(t, out, at, s, h, Source::Replacement, clock)
 }

@@ -1,7 +1,8 @@
 -- `hello::admit::admit_held` meets its contract.
 use mathlib.Core.Path.{refl, sym, _∙_}
+use denote.Ref.{now}
 use Rattle.memories.specs.View.{sourceOf}
-use Rattle.calls.specs.Call.{helloOf}
+use Rattle.calls.specs.Hello.{helloOf}
 use Rattle.state.specs.Told.{told-same}
 use Rattle.steps.specs.Did.{space-result, puts-length, ruled-ok, ruled-is}
 use Rattle.admission.specs.Ruling.{admits, denies}
@@ -11,30 +12,31 @@ use Rattle.hello.proofs.admit.admit_held.Statement.{statement}
 use Rattle.hello.proofs.admit.admit_held.Tie as tie
 
 denied-requires : tie.Need-denied-requires
-denied-requires c κs = c .before .before .before .pre .0 .fit
+denied-requires c κs = (c .before .before .before .before .before .before .pre .0 .fit, (c .before .before .before .before .before .before .pre .1 .1 .0, c .before .before .before .before .before .before .pre .1 .1 .1 .0))
 
 displace-requires : tie.Need-displace-requires
 displace-requires c κs =
-    let p = c .before .before .before .before .before .before .before .before .pre .1 in
-    let q = p .1 .1 .1 in
-    let e = held-displaced _ (helloOf (c .before .before .before .before .before .before .before .before .args .h)) _ (sourceOf (c .before .before .before .before .before .before .before .before .args .source)) (q .1 .0) (admits (c .before .before .enum-told .given .1) (c .before .before .before .before .denied .ensures)) in
-    (c .before .before .before .before .before .before .before .before .pre .0, (p .0, (p .1 .0, (p .1 .1 .0, (q .0, (q .1 .0, (q .1 .1 .0, space-result (q .1 .1 .1) e)))))))
+    let q = c .before .before .before .before .before .before .before .before .before .before .before .pre .1 .1 in
+    let y = helloOf (now (c .before .before .before .before .before .before .before .before .before .before .before .args .s)) (c .before .before .before .before .before .before .before .before .before .before .before .args .h) in
+    let e = held-displaced _ y _ (sourceOf (c .before .before .before .before .before .before .before .before .before .before .before .args .source)) (q .1 .0) (admits _ _ y _ (c .before .before .before .before .denied .ensures) (c .before .before .enum-told .given .1)) in
+    (c .before .before .before .before .before .before .before .before .before .before .before .pre .0, (c .before .before .before .before .before .before .before .before .before .before .before .pre .1 .0, (q .0, (q .1 .0, (q .1 .1 .0, space-result (q .1 .1 .1) e)))))
 
 reject-requires : tie.Need-reject-requires
 reject-requires c κs =
-    let q = c .before .before .before .before .before .before .before .before .before .pre .1 .1 .1 .1 in
-    space-result (q .1 .1 .1) (held-rejected _ (helloOf (c .before .before .before .before .before .before .before .before .before .args .h)) _ (sourceOf (c .before .before .before .before .before .before .before .before .before .args .source)) (q .1 .0) (denies (c .before .before .before .why .given .1) (c .before .before .before .before .before .denied .ensures)))
+    let q = c .before .before .before .before .before .before .before .before .before .before .before .pre .1 .1 in
+    let y = helloOf (now (c .before .before .before .before .before .before .before .before .before .before .before .args .s)) (c .before .before .before .before .before .before .before .before .before .before .before .args .h) in
+    space-result (q .1 .1 .1) (held-rejected _ y _ (sourceOf (c .before .before .before .before .before .before .before .before .before .before .before .args .source)) (q .1 .0) (denies _ _ y _ (c .before .before .before .before .denied .ensures) (c .before .before .why .given .1)))
 
 same-length : tie.Need-same-length
-same-length c = c .before .before .before .before .displace .ensures .table .fit .size ∙ sym (c .before .before .before .before .before .before .before .before .before .before .before .before .before .pre .0 .fit .size)
+same-length c = c .before .before .before .before .displace .ensures .table .fit .size ∙ sym (c .before .before .before .before .before .before .before .before .before .before .before .before .before .before .before .before .pre .0 .fit .size)
 
 same-length-2 : tie.Need-same-length-2
 same-length-2 c = puts-length (c .before .before .before .before .displace .ensures .puts)
 
 returns : tie.Need-returns
 returns c =
-    ruled-is (ruled-ok (c .before .before .before .before .displace .ensures))
-    (sym (held-displaced _ (helloOf (c .before .before .before .before .before .before .before .before .before .before .before .before .before .args .h)) _ (sourceOf (c .before .before .before .before .before .before .before .before .before .before .before .before .before .args .source)) (c .before .before .before .before .before .before .before .before .before .before .before .before .before .pre .1 .1 .1 .1 .1 .0) (admits (c .before .before .before .before .before .before .before .enum-told .given .1) (c .before .before .before .before .before .before .before .before .before .denied .ensures))))
+    let y = helloOf (now (c .before .before .before .before .before .before .before .before .before .before .before .before .before .before .before .before .args .s)) (c .before .before .before .before .before .before .before .before .before .before .before .before .before .before .before .before .args .h) in
+    ruled-is (ruled-ok (c .before .before .before .before .displace .ensures)) (sym (held-displaced _ y _ (sourceOf (c .before .before .before .before .before .before .before .before .before .before .before .before .before .before .before .before .args .source)) (c .before .before .before .before .before .before .before .before .before .before .before .before .before .before .before .before .pre .1 .1 .1 .0) (admits _ _ y _ (c .before .before .before .before .before .before .before .before .before .denied .ensures) (c .before .before .before .before .before .before .before .enum-told .given .1))))
 
 same-length-3 : tie.Need-same-length-3
 same-length-3 c = refl
@@ -44,8 +46,9 @@ same-length-4 c = puts-length (c .before .before .reject .ensures)
 
 returns-2 : tie.Need-returns-2
 returns-2 c =
-    ruled-is (ruled-ok (record { table = told-same (c .before .before .before .before .before .before .before .before .before .before .before .before .pre .0 .fit); puts = c .before .before .reject .ensures }))
-    (sym (held-rejected _ (helloOf (c .before .before .before .before .before .before .before .before .before .before .before .before .args .h)) _ (sourceOf (c .before .before .before .before .before .before .before .before .before .before .before .before .args .source)) (c .before .before .before .before .before .before .before .before .before .before .before .before .pre .1 .1 .1 .1 .1 .0) (denies (c .before .before .before .before .before .before .why .given .1) (c .before .before .before .before .before .before .before .before .denied .ensures))))
+    let y = helloOf (now (c .before .before .before .before .before .before .before .before .before .before .before .before .before .before .args .s)) (c .before .before .before .before .before .before .before .before .before .before .before .before .before .before .args .h) in
+    ruled-is (ruled-ok (record { table = told-same (c .before .before .before .before .before .before .before .before .before .before .before .before .before .before .pre .0 .fit); puts = c .before .before .reject .ensures }))
+    (sym (held-rejected _ y _ (sourceOf (c .before .before .before .before .before .before .before .before .before .before .before .before .before .before .args .source)) (c .before .before .before .before .before .before .before .before .before .before .before .before .before .before .pre .1 .1 .1 .0) (denies _ _ y _ (c .before .before .before .before .before .before .before .denied .ensures) (c .before .before .before .before .before .why .given .1))))
 
 pub admit-held-spec : {M : Type 1} → statement M
 admit-held-spec =

@@ -7,24 +7,23 @@ use Rattle.hello.proofs.admit.enter.Statement.{statement}
 use Rattle.hello.proofs.admit.enter.Tie as tie
 
 entering-requires : tie.Need-entering-requires
-entering-requires c κs = c .before .before .before .before .pre .0
+entering-requires c κs = c .before .before .before .before .before .pre .0
 
 same-length : tie.Need-same-length
 same-length c = refl
 
 returns : tie.Need-returns
-returns c = ruled-is (ruled-refused _ (c .before .before .before .before .before .before .pre .0 .fit) (space-place (c .before .before .before .before .before .before .pre .1 .1 .1 .1 .1))) (sym (entering-refused (c .before .entering .ensures) _ (c .if1 .taken)))
+returns c = ruled-is (ruled-refused _ (c .before .before .before .before .before .before .before .pre .0 .fit) (space-place (c .before .before .before .before .before .before .before .pre .1 .1 .1))) (sym (entering-refused (c .before .entering .ensures) _ (c .if1 .taken)))
 
 answer-requires : tie.Need-answer-requires
 answer-requires c κs =
-    let p = c .before .before .before .before .before .before .before .before .pre .1 in
+    let p = c .before .before .before .before .before .before .before .before .before .pre .1 in
     let room = c .before .before .before .entering .ensures .links (c .before .before .if1 .left) in
-    let legs = legs-room (c .before .before .before .before .before .before .before .before .pre .0 .sound) room in
-    let space = space-result (p .1 .1 .1 .1) (entering-passed (c .before .before .before .entering .ensures) _ (c .before .before .if1 .left)) in
-    (c .before .before .before .before .before .before .before .before .pre .0 .fit, (p .0, (p .1 .0, (p .1 .1 .0, (room, (legs, (p .1 .1 .1 .0, space)))))))
+    let space = space-result (p .1 .1) (entering-passed (c .before .before .before .entering .ensures) _ (c .before .before .if1 .left)) in
+    (c .before .before .before .before .before .before .before .before .before .pre .0 .fit, (p .0, (room, (legs-room (c .before .before .before .before .before .before .before .before .before .pre .0 .sound) room, (p .1 .0, space)))))
 
 same-length-2 : tie.Need-same-length-2
-same-length-2 c = c .before .before .before .before .answer .ensures .table .fit .size ∙ sym (c .before .before .before .before .before .before .before .before .before .before .before .before .before .pre .0 .fit .size)
+same-length-2 c = c .before .before .before .before .answer .ensures .table .fit .size ∙ sym (c .before .before .before .before .before .before .before .before .before .before .before .before .before .before .pre .0 .fit .size)
 
 same-length-3 : tie.Need-same-length-3
 same-length-3 c = puts-length (c .before .before .before .before .answer .ensures .puts)

@@ -1,6 +1,7 @@
 -- `hello::msg1::held_msg1` meets its contract.
 use mathlib.Core.Path.{refl, sym, _∙_}
-use Rattle.calls.specs.Call.{helloOf}
+use denote.Ref.{now}
+use Rattle.calls.specs.Hello.{helloOf}
 use Rattle.state.specs.Told.{told-same}
 use Rattle.steps.specs.Did.{space-result, puts-length, ruled-ok, ruled-is}
 use Rattle.hello.specs.Msg1.{msg1-restart, msg1-rekey}
@@ -8,31 +9,31 @@ use Rattle.hello.proofs.msg1.held_msg1.Statement.{statement}
 use Rattle.hello.proofs.msg1.held_msg1.Tie as tie
 
 held-epoch-requires : tie.Need-held-epoch-requires
-held-epoch-requires c κs = (c .before .before .before .pre .0 .fit, c .before .before .before .pre .1 .1 .1 .1 .1 .1 .0)
+held-epoch-requires c κs = (c .before .before .before .before .pre .0 .fit, c .before .before .before .before .pre .1 .1 .1 .1 .0)
 
-admit-requires : tie.Need-admit-requires
-admit-requires c κs =
-    let p = c .before .before .before .before .before .before .before .before .pre .1 in
-    let q = p .1 .1 .1 .1 in
-    let e = msg1-restart _ (helloOf (c .before .before .before .before .before .before .before .before .args .h)) _ _ (q .0) (q .1 .1 .0) (c .before .before .before .before .held-epoch .ensures) (c .before .before .if1 .taken) in
-    (c .before .before .before .before .before .before .before .before .pre .0, (p .0, (p .1 .0, (p .1 .1 .0, (p .1 .1 .1 .0, space-result (q .1 .1 .1) e)))))
+admit-held-requires : tie.Need-admit-held-requires
+admit-held-requires c κs =
+    let p = c .before .before .before .before .before .before .before .before .before .pre .1 in
+    let q = p .1 .1 in
+    let e = msg1-restart _ (helloOf (now (c .before .before .before .before .before .before .before .before .before .args .s)) (c .before .before .before .before .before .before .before .before .before .args .h)) _ _ (q .0) (q .1 .1 .0) (c .before .before .before .before .held-epoch .ensures) (c .before .before .if1 .taken) in
+    (c .before .before .before .before .before .before .before .before .before .pre .0, (p .0, (q .1 .0, (q .1 .1 .0, (p .1 .0, space-result (q .1 .1 .1) e)))))
 
 same-length : tie.Need-same-length
-same-length c = c .before .before .before .before .admit .ensures .did .table .fit .size ∙ sym (c .before .before .before .before .before .before .before .before .before .before .before .before .before .pre .0 .fit .size)
+same-length c = c .before .before .before .before .admit-held .ensures .did .table .fit .size ∙ sym (c .before .before .before .before .before .before .before .before .before .before .before .before .before .before .pre .0 .fit .size)
 
 same-length-2 : tie.Need-same-length-2
-same-length-2 c = puts-length (c .before .before .before .before .admit .ensures .did .puts)
+same-length-2 c = puts-length (c .before .before .before .before .admit-held .ensures .did .puts)
 
 returns : tie.Need-returns
 returns c =
-    let q = c .before .before .before .before .before .before .before .before .before .before .before .before .before .pre .1 .1 .1 .1 .1 in
-    ruled-is (c .before .before .before .before .admit .ensures) (sym (msg1-restart _ (helloOf (c .before .before .before .before .before .before .before .before .before .before .before .before .before .args .h)) _ _ (q .0) (q .1 .1 .0) (c .before .before .before .before .before .before .before .before .before .held-epoch .ensures) (c .before .before .before .before .before .before .before .if1 .taken)))
+    let q = c .before .before .before .before .before .before .before .before .before .before .before .before .before .before .pre .1 .1 .1 in
+    ruled-is (c .before .before .before .before .admit-held .ensures) (sym (msg1-restart _ (helloOf (now (c .before .before .before .before .before .before .before .before .before .before .before .before .before .before .args .s)) (c .before .before .before .before .before .before .before .before .before .before .before .before .before .before .args .h)) _ _ (q .0) (q .1 .1 .0) (c .before .before .before .before .before .before .before .before .before .held-epoch .ensures) (c .before .before .before .before .before .before .before .if1 .taken)))
 
 rekey-requires : tie.Need-rekey-requires
 rekey-requires c κs =
-    let q = c .before .before .before .before .before .before .before .before .pre .1 .1 .1 .1 .1 in
-    let e = msg1-rekey _ (helloOf (c .before .before .before .before .before .before .before .before .args .h)) _ _ (q .0) (q .1 .1 .0) (c .before .before .before .before .held-epoch .ensures) (c .before .before .if1 .left) in
-    (c .before .before .before .before .before .before .before .before .pre .0 .fit, (q .1 .0, (c .before .before .before .before .before .before .before .before .pre .1 .0, space-result (q .1 .1 .1) e)))
+    let q = c .before .before .before .before .before .before .before .before .before .pre .1 .1 .1 in
+    let e = msg1-rekey _ (helloOf (now (c .before .before .before .before .before .before .before .before .before .args .s)) (c .before .before .before .before .before .before .before .before .before .args .h)) _ _ (q .0) (q .1 .1 .0) (c .before .before .before .before .held-epoch .ensures) (c .before .before .if1 .left) in
+    (c .before .before .before .before .before .before .before .before .before .pre .0 .fit, (q .1 .0, (c .before .before .before .before .before .before .before .before .before .pre .1 .0 .pair, space-result (q .1 .1 .1) e)))
 
 same-length-3 : tie.Need-same-length-3
 same-length-3 c = refl
@@ -42,9 +43,9 @@ same-length-4 c = puts-length (c .before .before .rekey .ensures)
 
 returns-2 : tie.Need-returns-2
 returns-2 c =
-    let q = c .before .before .before .before .before .before .before .before .before .before .before .pre .1 .1 .1 .1 .1 in
-    ruled-is (ruled-ok (record { table = told-same (c .before .before .before .before .before .before .before .before .before .before .before .pre .0 .fit); puts = c .before .before .rekey .ensures }))
-    (sym (msg1-rekey _ (helloOf (c .before .before .before .before .before .before .before .before .before .before .before .args .h)) _ _ (q .0) (q .1 .1 .0) (c .before .before .before .before .before .before .before .held-epoch .ensures) (c .before .before .before .before .before .if1 .left)))
+    let q = c .before .before .before .before .before .before .before .before .before .before .before .before .pre .1 .1 .1 in
+    ruled-is (ruled-ok (record { table = told-same (c .before .before .before .before .before .before .before .before .before .before .before .before .pre .0 .fit); puts = c .before .before .rekey .ensures }))
+    (sym (msg1-rekey _ (helloOf (now (c .before .before .before .before .before .before .before .before .before .before .before .before .args .s)) (c .before .before .before .before .before .before .before .before .before .before .before .before .args .h)) _ _ (q .0) (q .1 .1 .0) (c .before .before .before .before .before .before .before .held-epoch .ensures) (c .before .before .before .before .before .if1 .left)))
 
 pub held-msg1-spec : {M : Type 1} → statement M
-held-msg1-spec = tie.close (tie.spec held-epoch-requires admit-requires same-length same-length-2 returns rekey-requires same-length-3 same-length-4 returns-2)
+held-msg1-spec = tie.close (tie.spec held-epoch-requires admit-held-requires same-length same-length-2 returns rekey-requires same-length-3 same-length-4 returns-2)
