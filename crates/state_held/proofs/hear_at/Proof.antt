@@ -7,14 +7,14 @@ use Rattle.state_held.proofs.hear_at.Statement.{statement}
 use Rattle.state_held.proofs.hear_at.Tie as tie
 
 part-hear-at-end : tie.Need-part-hear-at-end
-part-hear-at-end c = part-end (⟨pre⟩ .0) (lit≤ tt)
+part-hear-at-end c = part-end (c .before .before .pre .0) (lit≤ tt)
 
 hear-at-requires : tie.Need-hear-at-requires
-hear-at-requires c κs = (⟨pre⟩ .0 .held, (held-in (⟨pre⟩ .0) (⟨pre⟩ .1 .0), ⟨pre⟩ .1 .1))
+hear-at-requires c κs = (c .before .before .before .pre .0 .held, (held-in (c .before .before .before .pre .0) (c .before .before .before .pre .1 .0), c .before .before .before .pre .1 .1))
 
 returns : tie.Need-returns
 unfolding viewTable
-returns c = (told-held (⟨pre⟩ .0) (⟨hear-at⟩ .ensures .0) (⟨hear-at⟩ .ensures .1 .0), ⟨hear-at⟩ .ensures .1 .1)
+returns c = (told-held (c .before .before .before .before .before .before .pre .0) (c .before .before .hear-at .ensures .0) (c .before .before .hear-at .ensures .1 .0), c .before .before .hear-at .ensures .1 .1)
 
 pub hear-at-spec : {M : Type 1} → statement M
-hear-at-spec = tie.close (tie.spec NEEDS)
+hear-at-spec = tie.close (tie.spec (λ c. search needs) (λ c. search needs) part-hear-at-end hear-at-requires (λ c. search needs) returns)
