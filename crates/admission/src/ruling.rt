@@ -13,7 +13,6 @@ use state_held::held_heard;
 use state_held::held_installed;
 use state_held::held_last;
 ghost use mathlib.Core.Path.{_≡_};
-ghost use mathlib.Core.Bool.{false};
 ghost use mathlib.Core.Option.{none, some};
 ghost use Prim.Native.Nat.{_<_};
 ghost use lib.ListN.{length};
@@ -47,8 +46,8 @@ fn liveness_at(t: &[u8], i: usize) -> Liveness
     }
 }
 
-// What the gate says, where the table is not full; `l` is what is judged of the peer's holder, if it has one.
-fn gated(
+// Full, else what the gate says; `l` is what is judged of the peer's holder, if it has one.
+fn ruled(
     t: &[u8],
     l: Liveness,
     peer: NodeAddr,
@@ -58,10 +57,12 @@ fn gated(
     clock: u64,
 ) -> Ruling
     requires { ⌜ FitTable (now t) ⌝ }
-    requires { ⌜ rule.full (viewTable (now t)) ≡ false ⌝ }
     requires { ⌜ Lives l (rule.heldAt (peer .0) (viewTable (now t))) ⌝ }
     ensures { λ r. ⌜ deniedBy r ≡ rule.denied clock (sourceOf source) (asks (peer .0) (digest .0) epoch) (viewTable (now (t .entry))) ⌝ }
 {
+    if full(t) {
+        return Ruling::Deny(Denial::Full);
+    }
     let c = params_of(t);
     match judged(t, peer, source, l, digest, epoch, clock, c) {
         Verdict::Pass => Ruling::Admit,
@@ -69,7 +70,7 @@ fn gated(
     }
 }
 
-// On a msg1 of the peer whose holder is the i-th: Full, else what the gate says.
+// The ruling on a msg1 of the peer whose holder is the i-th.
 pub fn denied(
     t: &[u8],
     i: usize,
@@ -84,22 +85,16 @@ pub fn denied(
     requires { ⌜ rule.heldAt (peer .0) (viewTable (now t)) ≡ some (nthHeld (viewTable (now t)) i) ⌝ }
     ensures { λ r. ⌜ deniedBy r ≡ rule.denied clock (sourceOf source) (asks (peer .0) (digest .0) epoch) (viewTable (now (t .entry))) ⌝ }
 {
-    if full(t) {
-        return Ruling::Deny(Denial::Full);
-    }
     let l = liveness_at(t, i);
-    gated(t, l, peer, digest, epoch, source, clock)
+    ruled(t, l, peer, digest, epoch, source, clock)
 }
 
-// The same of a peer that is not held.
+// The ruling on one of a peer that is not held.
 pub fn denied_new(t: &[u8], peer: NodeAddr, digest: Digest, epoch: u64, clock: u64) -> Ruling
     requires { ⌜ FitTable (now t) ⌝ }
     requires { ⌜ rule.heldAt (peer .0) (viewTable (now t)) ≡ none ⌝ }
     ensures { λ r. ⌜ deniedBy r ≡ rule.denied clock shape.Source.NotHeld (asks (peer .0) (digest .0) epoch) (viewTable (now (t .entry))) ⌝ }
 {
-    if full(t) {
-        return Ruling::Deny(Denial::Full);
-    }
     let l = Liveness {
         held: false,
         heard: false,
@@ -107,5 +102,5 @@ pub fn denied_new(t: &[u8], peer: NodeAddr, digest: Digest, epoch: u64, clock: u
         dated: false,
         last: 0,
     };
-    gated(t, l, peer, digest, epoch, Source::NotHeld, clock)
+    ruled(t, l, peer, digest, epoch, Source::NotHeld, clock)
 }

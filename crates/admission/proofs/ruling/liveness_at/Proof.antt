@@ -1,7 +1,6 @@
 -- `admission::ruling::liveness_at` meets its contract.
 use mathlib.Core.Path.{refl}
 use Rattle.admission.specs.Ruling.{lives-some}
-use borrow.Author.Needs.{needs}
 use Rattle.admission.proofs.ruling.liveness_at.Statement.{statement}
 use Rattle.admission.proofs.ruling.liveness_at.Tie as tie
 
