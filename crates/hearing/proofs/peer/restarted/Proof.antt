@@ -7,16 +7,16 @@ use Rattle.hearing.proofs.peer.restarted.Statement.{statement}
 use Rattle.hearing.proofs.peer.restarted.Tie as tie
 
 returns : tie.Need-returns
-returns c = restarted-still _ _ (⟨pre⟩ .0) (⟨pre⟩ .1) (finds-none (⟨find-held⟩ .ensures) (⟨enum-told⟩ .given .1))
+returns c = restarted-still _ _ (c .before .before .before .before .before .before .pre .0) (c .before .before .before .before .before .before .pre .1) (finds-none (c .before .before .find-held .ensures) (c .enum-told .given .1))
 
 restart-at-requires : tie.Need-restart-at-requires
-restart-at-requires c κs = (⟨pre⟩ .0, place-within _ _ _ (finds-at (⟨find-held⟩ .ensures) (⟨i⟩ .given .1)))
+restart-at-requires c κs = (c .before .before .before .before .before .before .before .before .pre .0, place-within _ _ _ (finds-at (c .before .before .before .before .find-held .ensures) (c .before .before .i .given .1)))
 
 put-reset-requires : tie.Need-put-reset-requires
-put-reset-requires c κs = restarted-room _ _ _ (⟨pre⟩ .1) (search needs) (finds-at (⟨find-held⟩ .ensures) (⟨i⟩ .given .1))
+put-reset-requires c κs = restarted-room _ _ _ (c .before .before .before .before .before .before .before .before .before .before .before .before .pre .1) (search needs) (finds-at (c .before .before .before .before .before .before .before .before .find-held .ensures) (c .before .before .before .before .before .before .i .given .1))
 
 returns-2 : tie.Need-returns-2
-returns-2 c = restarted-did _ _ _ (finds-at (⟨find-held⟩ .ensures) (⟨i⟩ .given .1)) (⟨restart-at⟩ .ensures) (⟨put-reset⟩ .ensures)
+returns-2 c = restarted-did _ _ _ (finds-at (c .before .before .before .before .before .before .before .before .before .before .before .find-held .ensures) (c .before .before .before .before .before .before .before .before .before .i .given .1)) (c .before .before .before .before .before .before .restart-at .ensures) (c .before .before .put-reset .ensures)
 
 pub restarted-spec : {M : Type 1} → statement M
-restarted-spec = tie.close (tie.spec NEEDS)
+restarted-spec = tie.close (tie.spec (λ c κs. search needs) (λ c. search needs) (λ c. search needs) (λ c. search needs) returns restart-at-requires put-reset-requires (λ c. search needs) (λ c. search needs) returns-2)

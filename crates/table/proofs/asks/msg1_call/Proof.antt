@@ -8,19 +8,19 @@ use Rattle.table.proofs.asks.msg1_call.Statement.{statement}
 use Rattle.table.proofs.asks.msg1_call.Tie as tie
 
 returns : tie.Need-returns
-returns c = unread (⟨pre⟩) (⟨msg1-fields⟩ .ensures .0) (⟨if1⟩ .taken)
+returns c = unread (c .before .before .before .before .before .before .pre) (c .before .before .msg1-fields .ensures .0) (c .if1 .taken)
 
 msg1-requires : tie.Need-msg1-requires
-msg1-requires c κs = (⟨pre⟩ .ready, (⟨msg1-fields⟩ .ensures .1, read-space (⟨pre⟩) (⟨msg1-fields⟩ .ensures .0) (⟨if1⟩ .left)))
+msg1-requires c κs = (c .before .before .before .before .before .before .before .before .before .pre .ready, (c .before .before .before .before .before .msg1-fields .ensures .1, read-space (c .before .before .before .before .before .before .before .before .before .pre) (c .before .before .before .before .before .msg1-fields .ensures .0) (c .before .before .before .if1 .left)))
 
 same-length : tie.Need-same-length
-same-length c = ⟨msg1⟩ .ensures .did .table .fit .size ∙ sym (⟨pre⟩ .ready .fit .size)
+same-length c = c .before .before .before .before .msg1 .ensures .did .table .fit .size ∙ sym (c .before .before .before .before .before .before .before .before .before .before .before .before .before .before .pre .ready .fit .size)
 
 same-length-2 : tie.Need-same-length-2
-same-length-2 c = puts-length (⟨msg1⟩ .ensures .did .puts)
+same-length-2 c = puts-length (c .before .before .before .before .msg1 .ensures .did .puts)
 
 returns-2 : tie.Need-returns-2
-returns-2 c = read-done (⟨pre⟩) (⟨msg1-fields⟩ .ensures .0) (⟨if1⟩ .left) (⟨msg1⟩ .ensures)
+returns-2 c = read-done (c .before .before .before .before .before .before .before .before .before .before .before .before .before .before .pre) (c .before .before .before .before .before .before .before .before .before .before .msg1-fields .ensures .0) (c .before .before .before .before .before .before .before .before .if1 .left) (c .before .before .before .before .msg1 .ensures)
 
 pub msg1-call-spec : {M : Type 1} → statement M
-msg1-call-spec = tie.close (tie.spec NEEDS)
+msg1-call-spec = tie.close (tie.spec (λ c κs. search needs) returns msg1-requires same-length same-length-2 returns-2)

@@ -10,21 +10,21 @@ use Rattle.table.proofs.peers.heard_call.Statement.{statement}
 use Rattle.table.proofs.peers.heard_call.Tie as tie
 
 returns : tie.Need-returns
-returns c = unread (⟨pre⟩) (⟨heard-fields⟩ .ensures .0) (⟨if1⟩ .taken)
+returns c = unread (c .before .before .before .before .before .before .pre) (c .before .before .heard-fields .ensures .0) (c .if1 .taken)
 
 heard-requires : tie.Need-heard-requires
 unfolding step
-heard-requires c κs = (⟨pre⟩ .ready .fit, (gates-ordered (⟨pre⟩ .ready .sound), (⟨heard-fields⟩ .ensures .1 (not-false _ (⟨if1⟩ .left)), read-space (⟨pre⟩) (⟨heard-fields⟩ .ensures .0) (⟨if1⟩ .left))))
+heard-requires c κs = (c .before .before .before .before .before .before .before .before .before .pre .ready .fit, (gates-ordered (c .before .before .before .before .before .before .before .before .before .pre .ready .sound), (c .before .before .before .before .before .heard-fields .ensures .1 (not-false _ (c .before .before .before .if1 .left)), read-space (c .before .before .before .before .before .before .before .before .before .pre) (c .before .before .before .before .before .heard-fields .ensures .0) (c .before .before .before .if1 .left))))
 
 same-length : tie.Need-same-length
-same-length c = ⟨heard⟩ .ensures .table .fit .size ∙ sym (⟨pre⟩ .ready .fit .size)
+same-length c = c .before .before .before .before .heard .ensures .table .fit .size ∙ sym (c .before .before .before .before .before .before .before .before .before .before .before .before .before .before .pre .ready .fit .size)
 
 same-length-2 : tie.Need-same-length-2
-same-length-2 c = puts-length (⟨heard⟩ .ensures .puts)
+same-length-2 c = puts-length (c .before .before .before .before .heard .ensures .puts)
 
 returns-2 : tie.Need-returns-2
 unfolding step
-returns-2 c = read-done (⟨pre⟩) (⟨heard-fields⟩ .ensures .0) (⟨if1⟩ .left) (ruled-ok (⟨heard⟩ .ensures))
+returns-2 c = read-done (c .before .before .before .before .before .before .before .before .before .before .before .before .before .before .pre) (c .before .before .before .before .before .before .before .before .before .before .heard-fields .ensures .0) (c .before .before .before .before .before .before .before .before .if1 .left) (ruled-ok (c .before .before .before .before .heard .ensures))
 
 pub heard-call-spec : {M : Type 1} → statement M
-heard-call-spec = tie.close (tie.spec NEEDS)
+heard-call-spec = tie.close (tie.spec (λ c κs. search needs) returns heard-requires same-length same-length-2 returns-2)
