@@ -16,7 +16,7 @@ use Rattle.rules.specs.Data.{Call, Table, Output, Result}
 use Rattle.rules.specs.Output.{outputs}
 use Rattle.rules.specs.Time.{outOfRange}
 use Rattle.rules.specs.Settle.{refuse, step}
-use Rattle.rules.specs.Record.{finished, readCall, readNew}
+use Rattle.rules.specs.Record.{Timed, finished, readCall, readNew}
 use Rattle.rules.specs.Entry.{Start, Made, Refused, newTable}
 use Rattle.rules.specs.Entry as rule
 use Rattle.rules.specs.Bounds.{IsByte, Bounds}
@@ -44,20 +44,23 @@ pub short : (t s o : Bytes) → length o < 10_240 → refuse 2 (viewTable t) ≡
 unfolding rule.call
 short t s o h = rw (lt-ltb (length o) 10_240 h)
 
-module _ {t s o : Bytes} (h : 10_240 ≤ length o) {good : Bool} {k now at : ℕ} (w : Opens s good k now at) where
+module _ (t o : Bytes) (h : 10_240 ≤ length o) {s : Bytes} {good : Bool} {k now at : ℕ} (w : Opens s good k now at) where
   pub unread : not good ≡ true → refuse 3 (viewTable t) ≡ ruled t s o
   unfolding rule.call
   unread q = let e : readCall s ≡ none = rw (not-true good q) at (w .is) in rw (le-ltb (length o) 10_240 h, e)
 
+  abbrev timed : Call → Timed
+  timed c = record { now = now; call = c }
+
   -- the call that the fields say
-  said : (x : Option Call) → option (option x none λ c. some (record { now = now; call = c })) (refuse 3 (viewTable t)) (λ c. step (c .now) (c .call) (viewTable t)) ≡ option x (refuse 3 (viewTable t)) λ c. step now c (viewTable t)
+  said : (x : Option Call) → option (option x none λ c. some (timed c)) (refuse 3 (viewTable t)) (λ c. step (c .now) (c .call) (viewTable t)) ≡ option x (refuse 3 (viewTable t)) λ c. step now c (viewTable t)
   said none = refl
   said (some c) = refl
 
   pub reads : not good ≡ false → answered (kindFields k) now at s (viewTable t) ≡ ruled t s o
   unfolding rule.call answered
   reads q =
-      let e : readCall s ≡ option (finished (kindFields k (drop at s))) none (λ c. some (record { now = now; call = c })) = rw (not-false good q) at (w .is) in
+      let e : readCall s ≡ option (finished (kindFields k (drop at s))) none (λ c. some (timed c)) = rw (not-false good q) at (w .is) in
       sym (rw (le-ltb (length o) 10_240 h, e) (said (finished (kindFields k (drop at s)))))
 
 -- 10,240 bytes are room for it
@@ -87,14 +90,14 @@ call-short {t} {o} s b l h = called s b l (ruled-is (ruled-refused 2 (l .fit) (o
 module _ {t s o : Bytes} (b : All IsByte s) (l : Left t) (h : 10_240 ≤ length o) {good : Bool} {k now at : ℕ} (w : Opens s good k now at) where
   -- 3: no call was read
   pub call-unread : not good ≡ true → Called t s o t o 3 0
-  call-unread q = called s b l (ruled-is (ruled-refused 3 (l .fit) (omega arith)) (unread h w q))
+  call-unread q = called s b l (ruled-is (ruled-refused 3 (l .fit) (omega arith)) (unread t o h w q))
 
   -- a call was read: its step
   pub call-asked : not good ≡ false → Asked (kindFields k) now at s t o
-  call-asked q = record { ready = ready l; start = w .room; space = space-result (space s b l h) (sym (reads h w q)) }
+  call-asked q = record { ready = ready l; start = w .room; space = space-result (space s b l h) (sym (reads t o h w q)) }
 
   pub call-done : {t′ o′ : Bytes} {n m : ℕ} → not good ≡ false → Answers (kindFields k) now at s t o t′ o′ n m → Called t s o t′ o′ n m
-  call-done q a = called s b l (ruled-is (a .ruled) (reads h w q))
+  call-done q a = called s b l (ruled-is (a .ruled) (reads t o h w q))
 
 -- ---- new
 
