@@ -110,7 +110,15 @@ pub fn admit_held(
 }
 
 // The msg1 is from `source` if its peer is held.
-pub fn admit(t: &mut [u8], out: &mut [u8], at: usize, s: &[u8], h: Hello, source: Source, clock: u64) -> Answer
+pub fn admit(
+    t: &mut [u8],
+    out: &mut [u8],
+    at: usize,
+    s: &[u8],
+    h: Hello,
+    source: Source,
+    clock: u64,
+) -> Answer
     requires { ⌜ Ready (now t) ⌝ }
     requires { ⌜ FitHello (now s) h ⌝ }
     requires { ⌜ viewTable (now t) .next + 1 < 2 ^ 64 ⌝ }

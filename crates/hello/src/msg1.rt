@@ -59,7 +59,16 @@ fn rekey(t: &[u8], out: &mut [u8], at: usize, i: usize, h: Hello, reachable: boo
 }
 
 // The i-th holder is the peer's: the same epoch is a rekey, another a restart.
-fn held_msg1(t: &mut [u8], out: &mut [u8], at: usize, i: usize, s: &[u8], h: Hello, reachable: bool, clock: u64) -> Answer
+fn held_msg1(
+    t: &mut [u8],
+    out: &mut [u8],
+    at: usize,
+    i: usize,
+    s: &[u8],
+    h: Hello,
+    reachable: bool,
+    clock: u64,
+) -> Answer
     requires { ⌜ Ready (now t) ⌝ }
     requires { ⌜ FitHello (now s) h ⌝ }
     requires { ⌜ viewTable (now t) .next + 1 < 2 ^ 64 ⌝ }
@@ -82,7 +91,15 @@ fn held_msg1(t: &mut [u8], out: &mut [u8], at: usize, i: usize, s: &[u8], h: Hel
 }
 
 // No msg2 is stored for it.
-fn new_msg1(t: &mut [u8], out: &mut [u8], at: usize, s: &[u8], h: Hello, reachable: bool, clock: u64) -> Answer
+fn new_msg1(
+    t: &mut [u8],
+    out: &mut [u8],
+    at: usize,
+    s: &[u8],
+    h: Hello,
+    reachable: bool,
+    clock: u64,
+) -> Answer
     requires { ⌜ Ready (now t) ⌝ }
     requires { ⌜ FitHello (now s) h ⌝ }
     requires { ⌜ viewTable (now t) .next + 1 < 2 ^ 64 ⌝ }
@@ -99,7 +116,15 @@ fn new_msg1(t: &mut [u8], out: &mut [u8], at: usize, s: &[u8], h: Hello, reachab
 }
 
 // A number is left for one more link.
-fn numbered_msg1(t: &mut [u8], out: &mut [u8], at: usize, s: &[u8], h: Hello, reachable: bool, clock: u64) -> Answer
+fn numbered_msg1(
+    t: &mut [u8],
+    out: &mut [u8],
+    at: usize,
+    s: &[u8],
+    h: Hello,
+    reachable: bool,
+    clock: u64,
+) -> Answer
     requires { ⌜ Ready (now t) ⌝ }
     requires { ⌜ FitHello (now s) h ⌝ }
     requires { ⌜ viewTable (now t) .next + 1 < 2 ^ 64 ⌝ }
@@ -122,7 +147,15 @@ fn numbered_msg1(t: &mut [u8], out: &mut [u8], at: usize, s: &[u8], h: Hello, re
 }
 
 // A msg1 that was read and verified; `reachable` says whether its peer is.
-pub fn msg1(t: &mut [u8], out: &mut [u8], at: usize, s: &[u8], h: Hello, reachable: bool, clock: u64) -> Answer
+pub fn msg1(
+    t: &mut [u8],
+    out: &mut [u8],
+    at: usize,
+    s: &[u8],
+    h: Hello,
+    reachable: bool,
+    clock: u64,
+) -> Answer
     requires { ⌜ Ready (now t) ⌝ }
     requires { ⌜ FitHello (now s) h ⌝ }
     requires { ⌜ Space (now out) at ((rule.step clock (shape.Call.Msg1 (helloOf (now s) h) reachable) (viewTable (now t))) .step .outs) ⌝ }
@@ -136,7 +169,14 @@ pub fn msg1(t: &mut [u8], out: &mut [u8], at: usize, s: &[u8], h: Hello, reachab
 }
 
 // A msg1 that is to replace the peer's session.
-pub fn replacement(t: &mut [u8], out: &mut [u8], at: usize, s: &[u8], h: Hello, clock: u64) -> Answer
+pub fn replacement(
+    t: &mut [u8],
+    out: &mut [u8],
+    at: usize,
+    s: &[u8],
+    h: Hello,
+    clock: u64,
+) -> Answer
     requires { ⌜ Ready (now t) ⌝ }
     requires { ⌜ FitHello (now s) h ⌝ }
     requires { ⌜ Space (now out) at ((rule.step clock (shape.Call.Replacement (helloOf (now s) h)) (viewTable (now t))) .step .outs) ⌝ }
