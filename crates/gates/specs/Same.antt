@@ -1,21 +1,20 @@
 -- Zeroed memory has no memories; and regions that fit and show the same are the same bytes.
-use mathlib.Core.Path.{_≡_, refl, sym, ap, ap₂, _∙_}
+use mathlib.Core.Path.{_≡_, refl, sym, ap, _∙_}
 use mathlib.Core.Bool.{Bool, true, false}
 use mathlib.Core.Option.{none, some}
-use mathlib.Core.List.{List, [], _∷_, _++_, map, tail}
-use Prim.Native.Nat.{ℕ, zero, suc, _+_, _≤_}
+use mathlib.Core.List.{[], _∷_, map}
+use Prim.Native.Nat.{ℕ}
 use native.Mathlib.Omega.{arith}
 use lib.Dec.{lit≤}
-use lib.Seq.{length-take-le, drop-drop}
-use lib.ListN.{length, take, drop, getD, replicate, length-drop, getD-replicate, take-append-drop, drop-of-length-le}
+use lib.ListN.{length, take, drop, replicate, getD-replicate}
 use Rattle.rules.specs.Base.{if_then_else_, Bytes, All}
 use Rattle.rules.specs.Bounds.{IsByte}
 use Rattle.rules.specs.Data.{Replay, Silence, Memory}
-use Rattle.laws.specs.Shift.{all-take, all-drop}
-use Rattle.laws.specs.Cell.{num, flagOf, num-same, flag-same, option-num-same}
+use Rattle.laws.specs.Cell.{flagOf, flag-same, option-num-same}
 use Rattle.laws.specs.Chunk.{chunks}
-use Rattle.laws.specs.Fields.{cuts, sum}
+use Rattle.laws.specs.Fields.{sum}
 use Rattle.laws.specs.Store.{Store, entries, store-zeros, same-view}
+use Rattle.laws.specs.Same.{cell-size, cell-bytes, num-cells, cells-same, with-bytes}
 use Rattle.memory_entry.specs.Rows.{AnyBytes}
 use Rattle.memory_entry.specs.View.{replayOf, digestOf, silenceWs, silenceOf, FitSilenceCell, entryWs, entryOf, FitEntry, viewGates, FitGates, fit-zeros}
 
@@ -27,51 +26,6 @@ pub shows-none : viewGates (replicate 20289 0) ≡ []
 shows-none = ap (λ (n : ℕ). map entryOf (take n (chunks 634 32 (replicate 20289 0)))) (getD-replicate 20289 20288 0 0 (lit≤ tt))
 
 -- ---- equal contents are equal bytes
-cell-size : (w o : ℕ) (c : Bytes) → o + w ≤ length c → length (take w (drop o c)) ≡ w
-cell-size w o c h = length-take-le w (drop o c) (rw length-drop (omega arith))
-
-cell-bytes : (w o : ℕ) (c : Bytes) → All IsByte c → All IsByte (take w (drop o c))
-cell-bytes w o c a = all-take IsByte w (drop o c) (all-drop IsByte o c a)
-
--- numbers in cells of one width
-num-cells : (w o : ℕ) (c d : Bytes) → o + w ≤ length c → o + w ≤ length d → All IsByte c → All IsByte d → num (take w (drop o c)) ≡ num (take w (drop o d)) → take w (drop o c) ≡ take w (drop o d)
-num-cells w o c d h k a b e =
-    num-same (take w (drop o c)) (take w (drop o d)) (cell-bytes w o c a) (cell-bytes w o d b) (cell-size w o c h ∙ sym (cell-size w o d k)) e
-
--- what is left of two runs from o on, by its cells
-cells-same : (o : ℕ) (ws c d : Bytes) → length c ≡ o + sum ws → length d ≡ o + sum ws → cuts 0 o ws c ≡ cuts 0 o ws d → drop o c ≡ drop o d
-unfolding sum
-cells-same o [] c d h k e = drop-of-length-le c {i = o} (omega arith) ∙ sym (drop-of-length-le d {i = o} (omega arith))
-cells-same o (w ∷ ws) c d h k e =
-    let z : 0 + o ≡ o = omega arith in
-    let x : take w (drop o c) ≡ take w (drop o d) = rw z at (ap (λ (fs : List Bytes). getD fs 0 []) e) in
-    let y : drop (o + w) c ≡ drop (o + w) d = cells-same (o + w) ws c d (omega arith) (omega arith) (ap tail e) in
-    sym (take-append-drop w (drop o c)) ∙ ap₂ (λ (u v : Bytes). u ++ v) x (step c ∙ y ∙ sym (step d)) ∙ take-append-drop w (drop o d)
-  where
-    step : (c : Bytes) → drop w (drop o c) ≡ drop (o + w) c
-    step c = drop-drop w o c
-
--- the entries of a region of bytes
-all-chunks : (w n : ℕ) (s : Bytes) → All IsByte s → All (λ c. All IsByte c) (chunks w n s)
-unfolding chunks
-all-chunks w zero s a = tt
-all-chunks w (suc n) s a = (all-take IsByte w s a, all-chunks w n (drop w s) (all-drop IsByte w s a))
-
-all-both : (P Q : Bytes → Type 0) (xs : List Bytes) → All P xs → All Q xs → All (λ c. P c × Q c) xs
-all-both P Q [] a b = tt
-all-both P Q (x ∷ xs) a b = ((a .0, b .0), all-both P Q xs (a .1) (b .1))
-
-with-bytes : {P : Bytes → Type 0} {w cap : ℕ} {s : Bytes} → Store P w cap s → All IsByte s → Store (λ c. P c × All IsByte c) w cap s
-with-bytes {P} {w} {cap} {s} f a = record {
-  size = f .size;
-  kept = record {
-    small = f .kept .small;
-    size = f .kept .size;
-    rest = f .kept .rest;
-    each = all-both P (λ c. All IsByte c) (chunks w cap s) (f .kept .each) (all-chunks w cap s a);
-  };
-}
-
 -- replays, and counted digests
 replay-same : (c d : Bytes) → length c ≡ 40 → length d ≡ 40 → All IsByte c → All IsByte d → replayOf c ≡ replayOf d → c ≡ d
 unfolding sum

@@ -1,14 +1,14 @@
 -- What the bytes of an entry, a region and a held peer by value show, and their canonical form.
 use mathlib.Core.Path.{_≡_, refl}
 use mathlib.Core.Bool.{false}
-use mathlib.Core.Option.{Option, none, some}
+use mathlib.Core.Option.{none, some}
 use mathlib.Core.List.{List, [], _∷_}
 use Prim.Native.Nat.{ℕ}
 use lib.Dec.{lit<}
 use lib.ListN.{length, getD, replicate}
-use Rattle.rules.specs.Base.{if_then_else_, option, Bytes}
+use Rattle.rules.specs.Base.{if_then_else_, Bytes}
 use Rattle.rules.specs.Data.{Held}
-use Rattle.laws.specs.Cell.{num, flagOf, optionNum, optionBytes, Code, Optional}
+use Rattle.laws.specs.Cell.{num, flagOf, optionNum, optionBytes, Code, Optional, orBlank}
 use Rattle.laws.specs.Fields.{cuts}
 use Rattle.laws.specs.Store.{Store, entries}
 use Rattle.node_addr.specs.View.{viewPair, FitPair}
@@ -93,10 +93,6 @@ pub record FitRec (h : held.Held) : Type 0 where
   pub current : FitPair (h .current)
   pub undated : h .dated ≡ false → h .last ≡ 0
   pub unanswered : h .answered ≡ false → h .setup .0 ≡ replicate 32 0
-
--- ---- an option's value, or the blank one
-abbrev pub orBlank : {A : Type 0} → A → Option A → A
-orBlank z o = option o z λ a. a
 
 -- when the peer was last heard, 0 if never
 abbrev pub lastHeard : Held → ℕ

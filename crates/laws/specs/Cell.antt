@@ -9,7 +9,7 @@ use native.Mathlib.Omega.{arith}
 use lib.Dec.{eqb, lit<}
 use lib.Seq.{getD-take, getD-drop}
 use lib.ListN.{length, take, drop, getD, replicate, length-take, take-append-drop}
-use Rattle.rules.specs.Base.{if_then_else_, one, Bytes, All}
+use Rattle.rules.specs.Base.{if_then_else_, option, one, Bytes, All}
 use Rattle.rules.specs.Bounds.{IsByte}
 use Rattle.rules.specs.Field.{more}
 use Rattle.laws.specs.Shift.{Kept}
@@ -37,6 +37,10 @@ optionNum f s = if flagOf f then some (num s) else none
 
 abbrev pub optionBytes : Bytes → Bytes → Option Bytes
 optionBytes f s = if flagOf f then some s else none
+
+-- an option's value, or the blank one
+abbrev pub orBlank : {A : Type 0} → A → Option A → A
+orBlank z o = option o z λ a. a
 
 -- a byte where it stands, and a flag
 pub byte-here : (s : Bytes) (at : ℕ) → getD s at 0 ≡ byteOf (take 1 (drop at s))

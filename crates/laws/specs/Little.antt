@@ -17,7 +17,7 @@ use Rattle.rules.specs.Field.{more, digits}
 use Rattle.laws.specs.Beside.{same-refl, same-yes, same-no}
 use Rattle.laws.specs.Words.{Octets, octets-run, same-append}
 use Rattle.laws.specs.Splice.{Wrote}
-use Rattle.laws.specs.Part.{part-of}
+use Rattle.laws.specs.Part.{part-at}
 
 -- the number that the bytes spell, the least significant first
 unfoldable pub little : List ℕ → ℕ
@@ -146,10 +146,6 @@ pub record Fronts (n : ℕ) (s : List ℕ) (at : ℕ) (t : List ℕ) (from i : �
 pub fronts-start : {n : ℕ} {s : List ℕ} {at : ℕ} {t : List ℕ} {from : ℕ} → at + n ≤ length s → from + n ≤ length t → Fronts n s at t from 0
 fronts-start h g = record { within = omega arith; room = h; room′ = g; same-so-far = refl }
 
--- a part of a run
-run-part : (k n : ℕ) (s : List ℕ) (at i : ℕ) → i + k ≤ n → take k (drop i (take n (drop at s))) ≡ take k (drop (at + i) s)
-run-part k n s at i h = part-of i k n (drop at s) h ∙ rw drop-drop
-
 module _ {n : ℕ} {s : List ℕ} {at : ℕ} {t : List ℕ} {from i : ℕ} (a : Fronts n s at t from i) (k : ℕ) (f : (j : ℕ) → Fits w8 (getD s j 0)) (g : (j : ℕ) → Fits w8 (getD t j 0)) where
   wide : (s : List ℕ) (at j : ℕ) → at + n ≤ length s → j + k ≤ n → length (take k (drop (at + j) s)) ≡ k
   wide s at j r h = length-take-le k (drop (at + j) s) (rw length-drop (omega arith))
@@ -157,7 +153,7 @@ module _ {n : ℕ} {s : List ℕ} {at : ℕ} {t : List ℕ} {from i : ℕ} (a : 
   -- the words at i differ
   pub word-stop : i + k ≤ n → (little (take k (drop (at + i) s)) ≡ little (take k (drop (from + i) t)) → ⊥) → false ≡ same (take n (drop at s)) (take n (drop from t))
   word-stop h d = sym (same-no (take n (drop at s)) (take n (drop from t)) (λ e. d (ap little (
-      sym (run-part k n s at i h) ∙ ap (λ (u : List ℕ). take k (drop i u)) e ∙ run-part k n t from i h))))
+      sym (part-at n s at i k h) ∙ ap (λ (u : List ℕ). take k (drop i u)) e ∙ part-at n t from i k h))))
 
   -- they are the same
   pub word-on : i + k ≤ n → little (take k (drop (at + i) s)) ≡ little (take k (drop (from + i) t)) → Fronts n s at t from (i + k)

@@ -15,6 +15,9 @@ part-of (suc o) w zero u h = absurd (omega arith)
 part-of (suc o) w (suc m) [] h = refl
 part-of (suc o) w (suc m) (x ∷ u) h = part-of o w m u (omega arith)
 
+pub part-at : (n : ℕ) (s : List ℕ) (at o w : ℕ) → o + w ≤ n → take w (drop o (take n (drop at s))) ≡ take w (drop (at + o) s)
+part-at n s at o w h = part-of o w n (drop at s) h ∙ rw (drop-drop o at s)
+
 -- ---- a part of a list after a splice: itself, before it, after it
 pub part-append : (o w : ℕ) (a x : List ℕ) → o + w ≤ length a → take w (drop o (a ++ x)) ≡ take w (drop o a)
 part-append o w a x h =

@@ -14,15 +14,11 @@ use Rattle.rules.specs.Base.{if_then_else_, option, is, Bytes, same}
 use Rattle.rules.specs.Field.{more}
 use Rattle.rules.specs.Data.{Kind, Answered, Leg}
 use Rattle.rules.specs.Legs.{answered, answers, storedMsg2, due, wake}
-use Rattle.laws.specs.Cell.{num, byteOf, flagOf}
+use Rattle.laws.specs.Cell.{num, byteOf, flagOf, orBlank}
 use Rattle.laws.specs.Fields.{cuts}
 use Rattle.laws.specs.Beside.{same-apart}
 use Rattle.leg_entry.specs.View.{legWs, answerFrom, BlankCells, FitLegs, legCount, legAt}
 use Rattle.leg_entry.specs.Entry.{num-zeros, fit-here, leg-here}
-
--- ---- an option's value, or the blank one
-abbrev pub orBlank : {A : Type 0} → A → Option A → A
-orBlank z o = option o z λ a. a
 
 pub there : {A : Type 0} (z : A) (o : Option A) → is o ≡ true → o ≡ some (orBlank z o)
 there z none e = cc

@@ -19,7 +19,8 @@ use Rattle.laws.specs.Place.{find-at, find-nowhere, place-passes, place-within}
 use Rattle.node_addr.specs.declared.Found.{Found}
 use Rattle.node_addr.specs.declared.Found.the-variants as foundv
 use Rattle.leg_entry.specs.View.{viewLegs, FitLegs, legCount, noLeg, legAt}
-use Rattle.leg_entry.specs.At.{orBlank, noAnswer, answerOf}
+use Rattle.laws.specs.Cell.{orBlank}
+use Rattle.leg_entry.specs.At.{noAnswer, answerOf}
 use Rattle.legs.specs.Walk.{count-is}
 
 -- ---- what the place of a leg says

@@ -1,45 +1,21 @@
 -- Canonical regions of bytes that show the same links are the same.
 use mathlib.Core.Path.{_≡_, refl, sym, ap, _∙_}
 use mathlib.Core.Bool.{Bool, true, false}
-use mathlib.Core.List.{List, [], _∷_, _++_}
-use Prim.Native.Nat.{ℕ, zero, suc, _+_, _≤_, _<_}
+use mathlib.Core.List.{_++_}
+use Prim.Native.Nat.{ℕ, zero, suc, _+_, _<_}
 use native.Mathlib.Omega.{arith}
-use lib.Seq.{drop-drop, take-all, length-take-le}
-use lib.ListN.{length, take, drop, length-drop, take-append-drop, drop-of-length-le}
+use lib.Seq.{take-all}
+use lib.ListN.{length, take, drop, length-drop, take-append-drop}
 use Rattle.rules.specs.Base.{if_then_else_, Bytes, All}
 use Rattle.rules.specs.Bounds.{IsByte}
 use Rattle.rules.specs.Data.{ALeg, APeer, PathRec, LinkRec}
-use Rattle.laws.specs.Shift.{all-take, all-drop}
+use Rattle.laws.specs.Shift.{all-take}
 use Rattle.laws.specs.Cell.{byteOf, flagOf, byte-same, flag-same, num-same}
-use Rattle.laws.specs.Chunk.{chunks, joined}
 use Rattle.laws.specs.Fields.{cuts, sum}
-use Rattle.laws.specs.Store.{Store, entries, same-view}
+use Rattle.laws.specs.Store.{same-view}
+use Rattle.laws.specs.Same.{cell-size, cell-bytes, cells-same, with-bytes}
 use Rattle.node_addr.specs.Place.{pair-cell-same}
 use Rattle.link_entry.specs.View.{stateOf, pathOf, FitPath, viewPaths, FitPaths, linkWs, dirOf, holderOf, linkOf, FitHolder, FitLink, viewLinks, FitLinks}
-
--- ---- a region whose entries are of bytes too
-all-and : {A : Type 0} (P Q : A → Type 0) (xs : List A) → All P xs → All Q xs → All (λ (x : A). P x × Q x) xs
-all-and P Q [] a b = tt
-all-and P Q (x ∷ xs) a b = ((a .0, b .0), all-and P Q xs (a .1) (b .1))
-
-all-chunks : (w n : ℕ) (s : Bytes) → All IsByte s → All (All IsByte) (chunks w n s)
-unfolding chunks
-all-chunks w zero s a = tt
-all-chunks w (suc n) s a = (all-take IsByte w s a, all-chunks w n (drop w s) (all-drop IsByte w s a))
-
-with-bytes : {P : Bytes → Type 0} {w cap : ℕ} {s : Bytes} → Store P w cap s → All IsByte s → Store (λ c. P c × All IsByte c) w cap s
-with-bytes {P} {w} {cap} {s} r a = record {
-  size = r .size;
-  kept = record { small = r .kept .small; size = r .kept .size; rest = r .kept .rest; each = all-and P (All IsByte) (chunks w cap s) (r .kept .each) (all-chunks w cap s a) };
-}
-
--- an entry is its fields in a row
-fields-whole : (o : ℕ) (ws c : Bytes) → length c ≡ o + sum ws → joined (cuts 0 o ws c) ≡ drop o c
-unfolding joined sum
-fields-whole o [] c e = sym (drop-of-length-le c {i = o} (omega arith))
-fields-whole o (w ∷ ws) c e =
-    let z : 0 + o ≡ o = omega arith in
-    rw (z, fields-whole (o + w) ws c (omega arith), ← drop-drop w o c) (take-append-drop w (drop o c))
 
 -- ---- codes
 state-apart : (x y : ℕ) → x < 3 → y < 3 → stateOf x ≡ stateOf y → x ≡ y
@@ -100,33 +76,27 @@ holder-apart c d f g h k e =
 
 -- ---- a link
 module _ (c d : Bytes) (a : (FitLink c × All IsByte c) × (length c ≡ 297)) (b : (FitLink d × All IsByte d) × (length d ≡ 297)) (e : linkOf c ≡ linkOf d) where
-  all-part : (o n : ℕ) (s : Bytes) → All IsByte s → All IsByte (take n (drop o s))
-  all-part o n s z = all-take IsByte n (drop o s) (all-drop IsByte o s z)
-
-  size-part : (o n : ℕ) (s : Bytes) → o + n ≤ length s → length (take n (drop o s)) ≡ n
-  size-part o n s h = length-take-le n (drop o s) (rw length-drop (omega arith))
-
   fields-same : cuts 0 0 linkWs c ≡ cuts 0 0 linkWs d
   fields-same =
       let lc : length c ≡ 297 = a .1 in
       let ld : length d ≡ 297 = b .1 in
       let n : take 8 c ≡ take 8 d = num-same (take 8 c) (take 8 d) (all-take IsByte 8 c (a .0 .1)) (all-take IsByte 8 d (b .0 .1))
-      (size-part 0 8 c (omega arith) ∙ sym (size-part 0 8 d (omega arith))) (ap (λ (r : LinkRec). r .no) e) in
+      (cell-size 8 0 c (omega arith) ∙ sym (cell-size 8 0 d (omega arith))) (ap (λ (r : LinkRec). r .no) e) in
       let p : take 53 (drop 8 c) ≡ take 53 (drop 8 d) =
-      pair-cell-same (a .0 .0 .setup) (b .0 .0 .setup) (all-part 8 53 c (a .0 .1)) (all-part 8 53 d (b .0 .1)) (ap (λ (r : LinkRec). r .setup) e) in
+      pair-cell-same (a .0 .0 .setup) (b .0 .0 .setup) (cell-bytes 53 8 c (a .0 .1)) (cell-bytes 53 8 d (b .0 .1)) (ap (λ (r : LinkRec). r .setup) e) in
       let q : take 1 (drop 61 c) ≡ take 1 (drop 61 d) =
       byte-same (a .0 .0 .dir) (b .0 .0 .dir)
       (dir-apart (byteOf (take 1 (drop 61 c))) (byteOf (take 1 (drop 61 d))) (a .0 .0 .dir .low) (b .0 .0 .dir .low) (ap (λ (r : LinkRec). r .dir) e)) in
       let h : take 17 (drop 62 c) ≡ take 17 (drop 62 d) =
-      holder-apart (take 17 (drop 62 c)) (take 17 (drop 62 d)) (a .0 .0 .holder) (b .0 .0 .holder) (size-part 62 17 c (omega arith)) (size-part 62 17 d (omega arith)) (ap (λ (r : LinkRec). r .holder) e) in
+      holder-apart (take 17 (drop 62 c)) (take 17 (drop 62 d)) (a .0 .0 .holder) (b .0 .0 .holder) (cell-size 17 62 c (omega arith)) (cell-size 17 62 d (omega arith)) (ap (λ (r : LinkRec). r .holder) e) in
       let f : take 1 (drop 79 c) ≡ take 1 (drop 79 d) = flag-same (a .0 .0 .released) (b .0 .0 .released) (ap (λ (r : LinkRec). r .released) e) in
       let s : take 217 (drop 80 c) ≡ take 217 (drop 80 d) =
-      paths-same (a .0 .0 .paths) (b .0 .0 .paths) (all-part 80 217 c (a .0 .1)) (all-part 80 217 d (b .0 .1)) (ap (λ (r : LinkRec). r .paths) e) in
+      paths-same (a .0 .0 .paths) (b .0 .0 .paths) (cell-bytes 217 80 c (a .0 .1)) (cell-bytes 217 80 d (b .0 .1)) (ap (λ (r : LinkRec). r .paths) e) in
       rw (n, p, q, h, f, s)
 
   link-apart : c ≡ d
   unfolding sum
-  link-apart = sym (fields-whole 0 linkWs c (a .1)) ∙ ap joined fields-same ∙ fields-whole 0 linkWs d (b .1)
+  link-apart = cells-same 0 linkWs c d (a .1) (b .1) fields-same
 
 pub links-same : {s u : Bytes} → FitLinks s → FitLinks u → All IsByte s → All IsByte u → viewLinks s ≡ viewLinks u → s ≡ u
 links-same f g a b e = same-view linkOf (with-bytes f a) (with-bytes g b) link-apart e

@@ -16,6 +16,7 @@ use Rattle.rules.specs.Data as rule
 use Rattle.laws.specs.Splice.{length-digits, Wrote}
 use Rattle.laws.specs.Round.{more-digits}
 use Rattle.laws.specs.Cell.{num, flagOf, Optional, flag-shows, flag-code}
+use Rattle.laws.specs.Part.{part-at}
 use Rattle.laws.specs.Chunk.{chunks, chunk-size, joined}
 use Rattle.laws.specs.Fields.{cuts, cuts-spelt, length-joined, sum, field-at}
 use Rattle.laws.specs.Store.{Store, entries, entry-shows, entry-fits}
@@ -26,7 +27,7 @@ use Rattle.memories.specs.declared.Digests.{Digests}
 use Rattle.memories.specs.declared.Silence.{Silence}
 use Rattle.memories.specs.declared.Memory.{Memory}
 use Rattle.memories.specs.View.{optional, viewReplay, viewReplays, viewDigest, viewDigests, viewSilence, viewMemory, blankReplay, blankSilence, FitReplay, FitDigest, FitReplays, FitDigests, WideSilence, FitSilence, FitMemory}
-use Rattle.memory_entry.specs.Rows.{AnyBytes, part-at, cuts-part, row-size, row-store, row-shows}
+use Rattle.memory_entry.specs.Rows.{AnyBytes, cuts-part, row-size, row-store, row-shows}
 use Rattle.memory_entry.specs.View.{replayOf, digestOf, silenceWs, silenceFrom, silenceOf, SilenceCells, FitSilenceCell, entryWs, entryFrom, entryOf, FitCells, FitEntry, FitGates, gateCount, noMemory, memoryAt}
 
 -- ---- a replay and a digest at a place

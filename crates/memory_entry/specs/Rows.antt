@@ -5,16 +5,16 @@ use Prim.Native.Nat.{ℕ, zero, suc, _+_, _-_, _*_, _≤_, _<_}
 use native.Mathlib.Nat.{zero-mul, suc-mul}
 use native.Mathlib.Numerals.{add-one}
 use native.Mathlib.Omega.{arith}
-use lib.Seq.{take-at, drop-at, drop-drop, take-suc, take-all, length-take-le}
+use lib.Seq.{take-at, drop-at, take-suc, take-all, length-take-le}
 use lib.ListN.{length, take, drop, getD, set, replicate, length-append, length-map, length-replicate, List·getD-map}
 use Rattle.rules.specs.Base.{Bytes, All}
 use Rattle.laws.specs.Shift.{Kept, getD-any, map-take, all-take, all-replicate, all-set}
 use Rattle.laws.specs.Buffer.{Copying, copying-start, copying-turn, copying-end, drop-replicate}
 use Rattle.laws.specs.Splice.{splice, splice-none, splice-splice, length-splice, Wrote, wrote-then}
+use Rattle.laws.specs.Part.{part-at}
 use Rattle.laws.specs.Chunk.{chunks, joined, length-chunks}
 use Rattle.laws.specs.Fields.{cuts, sum}
 use Rattle.laws.specs.Store.{Store, entries}
-use Rattle.node_addr.specs.Alike.{part-of}
 
 -- of a part nothing more is asked
 abbrev pub AnyBytes : Bytes → Type 0
@@ -24,9 +24,6 @@ abbrev pub Wide : ℕ → Bytes → Type 0
 Wide w c = length c ≡ w
 
 -- ---- parts of a part
-pub part-at : (n : ℕ) (s : Bytes) (at o w : ℕ) → o + w ≤ n → take w (drop o (take n (drop at s))) ≡ take w (drop (at + o) s)
-part-at n s at o w h = part-of o w n (drop at s) h ∙ rw (drop-drop o at s)
-
 pub cuts-part : (n : ℕ) (s : Bytes) (at o : ℕ) (ws : List ℕ) → o + sum ws ≤ n → cuts 0 o ws (take n (drop at s)) ≡ cuts at o ws s
 unfolding sum
 cuts-part n s at o [] h = refl

@@ -21,15 +21,12 @@ use Rattle.laws.specs.Beside.{same-apart}
 use Rattle.laws.specs.Words.{Octets, octets-run, octets-take, number-same, same-append}
 use Rattle.laws.specs.Splice.{length-digits, Wrote}
 use Rattle.laws.specs.Round.{more-digits}
+use Rattle.laws.specs.Part.{part-of, part-at}
 use Rattle.laws.specs.Cell.{num, byteOf, textOf, Text, text-same, num-same}
 use Rattle.node_addr.specs.View.{viewPair, viewMessage, FitPair, FitMessage}
-use Rattle.node_addr.specs.Alike.{part-of, byte-here, pair-unlike, pair-like, same-unlike, same-kept}
+use Rattle.node_addr.specs.Alike.{byte-here, pair-unlike, pair-like, same-unlike, same-kept}
 use Rattle.node_addr.specs.declared.Pair as pair
 use Rattle.node_addr.specs.declared.Message as message
-
--- a part of the first n bytes from a place
-part-at : (n : ℕ) (s : Bytes) (at o w : ℕ) → o + w ≤ n → take w (drop o (take n (drop at s))) ≡ take w (drop (at + o) s)
-part-at n s at o w h = part-of o w n (drop at s) h ∙ rw (drop-drop o at s)
 
 -- ---- a pair, 53 bytes: transport 4, length 1, address 48 with zeros behind
 

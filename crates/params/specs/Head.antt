@@ -1,25 +1,26 @@
 -- The head region, 98 bytes: the node's own address 16, the settings 74, the next link number 8. What it shows, when it fits, and that heads which show the same are the same.
-use mathlib.Core.Path.{_≡_, refl, sym, ap, _∙_, subst}
+use mathlib.Core.Path.{_≡_, sym, ap, _∙_}
 use mathlib.Core.Bool.{false}
 use mathlib.Core.List.{List, [], _∷_, _++_, map, append-assoc, append-nil}
-use Prim.Native.Nat.{ℕ, _+_, _≤_, _<_, _^_}
+use Prim.Native.Nat.{ℕ, _+_, _≤_, _<_}
 use native.Mathlib.Omega.{arith}
 use lib.Dec.{lit≤, lit<}
-use lib.Seq.{take-at, drop-drop, take-all, length-take-le}
-use lib.ListN.{length, take, drop, getD, length-append, length-take, length-drop, take-append-drop, drop-of-length-le}
-use mir.Syntax.{w8, w32, w64}
+use lib.Seq.{drop-drop, take-all}
+use lib.ListN.{length, take, drop, getD, length-take, length-drop, take-append-drop}
+use mir.Syntax.{w32, w64}
 use mir.Val.{Fits}
 use Rattle.rules.specs.Base.{Bytes, All}
 use Rattle.rules.specs.Bounds.{IsByte}
 use Rattle.rules.specs.Field.{digits}
 use Rattle.rules.specs.Time.{Params, outOfRange}
 use Rattle.laws.specs.Shift.{all-take, all-drop, all-at}
-use Rattle.laws.specs.Splice.{splice, length-splice, length-digits, Wrote}
+use Rattle.laws.specs.Splice.{length-splice, length-digits, Wrote}
 use Rattle.laws.specs.Round.{more-digits}
 use Rattle.laws.specs.Part.{part-before, part-after, part-same}
 use Rattle.laws.specs.Chunk.{joined}
 use Rattle.laws.specs.Fields.{cuts, sum, cuts-spelt, length-joined}
 use Rattle.laws.specs.Cell.{num, byteOf, num-same, Code, byte-same}
+use Rattle.laws.specs.Same.{num-cells, cells-same}
 use Rattle.node_addr.specs.Alike.{part-of, byte-here}
 use Rattle.params.specs.View.{viewParams, in-range-says}
 use Rattle.params.specs.declared.Params as params
@@ -221,18 +222,7 @@ shows-fit {c = c} e h =
     record { size = h .size; some-counted = rw (h .params) (r .0); counted = rw (h .params) (r .1); replays = rw (h .params) (r .2) }
 
 -- ---- heads that show the same are the same
-joined-cuts : (o : ℕ) (ws c : Bytes) → o + sum ws ≡ length c → joined (cuts 0 o ws c) ≡ drop o c
-unfolding joined sum
-joined-cuts o [] c h = sym (drop-of-length-le c {i = o} (omega arith))
-joined-cuts o (w ∷ ws) c h =
-    let z : 0 + o ≡ o = omega arith in
-    rw (z, joined-cuts (o + w) ws c (omega arith), ← drop-drop w o c) (take-append-drop w (drop o c))
-
 module _ (c d : Bytes) (h : length c ≡ 74) (k : length d ≡ 74) (x : All IsByte c) (y : All IsByte d) where
-  number-same : (o w : ℕ) → num (take w (drop o c)) ≡ num (take w (drop o d)) → take w (drop o c) ≡ take w (drop o d)
-  number-same o w e =
-      num-same (take w (drop o c)) (take w (drop o d)) (all-take IsByte w (drop o c) (all-drop IsByte o c x)) (all-take IsByte w (drop o d) (all-drop IsByte o d y)) (simp (length-take, length-drop) (omega arith)) e
-
   code-at : (s : Bytes) (o : ℕ) → o < length s → All IsByte s → Code 256 (take 1 (drop o s))
   code-at s o q a = record { size = simp (length-take, length-drop) (omega arith); low = rw (← byte-here s o) (all-at IsByte s o 0 a q) }
 
@@ -242,22 +232,21 @@ module _ (c d : Bytes) (h : length c ≡ 74) (k : length d ≡ 74) (x : All IsBy
   settings-same : settingsFrom (cuts 0 0 settingsWs c) ≡ settingsFrom (cuts 0 0 settingsWs d) → c ≡ d
   unfolding sum
   settings-same e =
-      sym (joined-cuts 0 settingsWs c (sym h))
-      ∙ rw (
-        number-same 0 8 (ap (λ (p : Params). p .unheard) e),
-        number-same 8 8 (ap (λ (p : Params). p .interval) e),
-        number-same 16 8 (ap (λ (p : Params). p .silentbase) e),
-        number-same 24 8 (ap (λ (p : Params). p .silentcap) e),
-        number-same 32 8 (ap (λ (p : Params). p .horizon) e),
-        number-same 40 8 (ap (λ (p : Params). p .handshake) e),
-        number-same 48 8 (ap (λ (p : Params). p .resend) e),
-        number-same 56 4 (ap (λ (p : Params). p .silent) e),
-        number-same 60 4 (ap (λ (p : Params). p .resends) e),
+      cells-same 0 settingsWs c d h k
+      (rw (
+        num-cells 8 0 c d (omega arith) (omega arith) x y (ap (λ (p : Params). p .unheard) e),
+        num-cells 8 8 c d (omega arith) (omega arith) x y (ap (λ (p : Params). p .interval) e),
+        num-cells 8 16 c d (omega arith) (omega arith) x y (ap (λ (p : Params). p .silentbase) e),
+        num-cells 8 24 c d (omega arith) (omega arith) x y (ap (λ (p : Params). p .silentcap) e),
+        num-cells 8 32 c d (omega arith) (omega arith) x y (ap (λ (p : Params). p .horizon) e),
+        num-cells 8 40 c d (omega arith) (omega arith) x y (ap (λ (p : Params). p .handshake) e),
+        num-cells 8 48 c d (omega arith) (omega arith) x y (ap (λ (p : Params). p .resend) e),
+        num-cells 4 56 c d (omega arith) (omega arith) x y (ap (λ (p : Params). p .silent) e),
+        num-cells 4 60 c d (omega arith) (omega arith) x y (ap (λ (p : Params). p .resends) e),
         one-same 64 (lit< tt) (ap (λ (p : Params). p .replays) e),
         one-same 65 (lit< tt) (ap (λ (p : Params). p .counted) e),
-        number-same 66 8 (ap (λ (p : Params). p .pending) e),
-      )
-      (joined-cuts 0 settingsWs d (sym k))
+        num-cells 8 66 c d (omega arith) (omega arith) x y (ap (λ (p : Params). p .pending) e),
+      ))
 
 head-whole : (s : Bytes) → length s ≡ 98 → s ≡ take 16 s ++ (take 74 (drop 16 s) ++ take 8 (drop 90 s))
 head-whole s h =

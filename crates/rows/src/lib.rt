@@ -388,10 +388,7 @@ pub fn span_at(s: &[u8], ok: bool, at: usize) -> SpanAt
     }
     SpanAt {
         ok: true,
-        value: Span {
-            at: at + 2,
-            len: n,
-        },
+        value: Span { at: at + 2, len: n },
         at: at + (2 + n),
     }
 }
