@@ -1,17 +1,18 @@
 -- A part of the table that is made zeros shows nothing.
-use mathlib.Core.Path.{_≡_, sym, ap, _∙_, subst}
-use mathlib.Core.List.{[], _++_, append-nil}
+use mathlib.Core.Path.{_≡_, refl, sym, ap, _∙_, subst}
+use mathlib.Core.List.{List, [], _∷_, _++_, append-nil}
 use Prim.Native.Nat.{ℕ, _+_, _≤_}
 use native.Mathlib.Omega.{arith}
 use lib.Seq.{length-take-le}
 use lib.ListN.{length, take, drop, replicate, length-drop, drop-of-length-le}
 use Rattle.rules.specs.Base.{Bytes}
+use Rattle.rules.specs.Data.{Leg}
 use Rattle.rules.specs.Settle.{withLegs}
 use Rattle.laws.specs.Splice.{splice, Wrote}
 use Rattle.legs.specs.View.{FitLegs, viewLegs}
 use Rattle.legs.specs.Same.{fit-new, shows-none}
 use Rattle.state.specs.View.{legsIn, viewTable, FitTable, Told}
-use Rattle.state.specs.Told.{told-legs}
+use Rattle.state.specs.Told.{told-same, told-is, told-legs}
 
 -- all bytes written
 whole : {xs : Bytes} {n : ℕ} {bs ys : Bytes} {r : ℕ} → Wrote xs 0 n bs ys r → length xs ≡ n → ys ≡ bs
@@ -30,3 +31,11 @@ pub legs-cleared : {t l : Bytes} {r : ℕ} → FitTable t → Wrote (legsIn t) 0
 legs-cleared {t} {l} f w =
     let e : l ≡ replicate 11233 0 = whole w (legs-size f) in
     told-legs f (subst FitLegs (sym e) fit-new) (ap viewLegs e ∙ shows-none)
+
+-- there was none
+no-legs : (s : List Leg) → length s ≡ 0 → s ≡ []
+no-legs [] e = refl
+no-legs (g ∷ s) e = absurd (omega (arith, e))
+
+pub none-cleared : {t : Bytes} → FitTable t → length (viewTable t .legs) ≡ 0 → Told t (withLegs [] (viewTable t))
+none-cleared {t} f e = told-is (told-same f) (ap (λ (s : List Leg). withLegs s (viewTable t)) (no-legs (viewTable t .legs) e))

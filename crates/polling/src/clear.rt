@@ -1,5 +1,6 @@
 // All legs at once. The offsets are those of crate state.
 use memory::write::clear;
+use state_legs::leg_count;
 ghost use mathlib.Core.List.{[]};
 ghost use Rattle.rules.specs.Settle as settle;
 ghost use Rattle.state.specs.View.{viewTable, FitTable, Told};
@@ -9,5 +10,8 @@ pub fn clear_legs(t: &mut [u8])
     requires { ⌜ FitTable (now t) ⌝ }
     ensures { λ r. ⌜ Told (now (t .exit)) (settle.withLegs [] (viewTable (now (t .entry)))) ⌝ }
 {
+    if leg_count(t) == 0 {
+        return;
+    }
     clear(&mut t[9603..20836], 0, 11233);
 }
