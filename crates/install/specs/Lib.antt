@@ -1,4 +1,2 @@
 pub mod Install
-pub mod Dialed
 pub mod Sent
-pub mod Msg2

@@ -1,4 +1,3 @@
-// The steps by which a leg becomes a holder: an answer that was sent, and a msg2 that completes a dial.
+// A peer is put among the held ones; an answer that was sent makes its peer a held one.
 pub mod install;
-pub mod msg2;
 pub mod sent;

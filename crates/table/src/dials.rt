@@ -2,9 +2,9 @@
 use dialing::dial;
 use ending::leg::abandon;
 use hellos::dial_fields;
-use install::msg2::msg2;
 use install::sent::sent;
 use install::sent::unsent;
+use msg2::msg2;
 use shapes::link_fields;
 use shapes::msg2_fields;
 use steps::Answer;

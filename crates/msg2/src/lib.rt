@@ -1,5 +1,5 @@
 // What a msg2 makes of its dial.
-use crate::install::install;
+use install::install::install;
 use codes::Build;
 use codes::Transition;
 use codes::Why;
@@ -44,7 +44,7 @@ ghost use Rattle.codes.specs.Codes.{transitionOf};
 ghost use Rattle.state.specs.View.{viewTable, FitTable, nthLeg, nthHeld};
 ghost use Rattle.steps.specs.Did.{Space, Did};
 ghost use Rattle.steps.specs.Sound.{Ready};
-ghost use Rattle.install.specs.Msg2.{replaced, kept, moves, met};
+ghost use Rattle.msg2.specs.Msg2.{replaced, kept, moves, met};
 
 // The i-th leg's dial is complete: the peer is held, heard.
 pub fn dialed(

@@ -1,7 +1,7 @@
--- `install::msg2::own_or_first` meets its contract.
-use Rattle.install.specs.Msg2.{moves-own, moves-first}
-use Rattle.install.proofs.msg2.own_or_first.Statement.{statement}
-use Rattle.install.proofs.msg2.own_or_first.Tie as tie
+-- `msg2::own_or_first` meets its contract.
+use Rattle.msg2.specs.Msg2.{moves-own, moves-first}
+use Rattle.msg2.proofs.own_or_first.Statement.{statement}
+use Rattle.msg2.proofs.own_or_first.Tie as tie
 
 returns : tie.Need-returns
 returns c = moves-own _ _ _ (c .before .own .ensures) (c .if1 .taken)

@@ -1,9 +1,9 @@
--- `install::msg2::replace` meets its contract.
+-- `msg2::replace` meets its contract.
 use mathlib.Core.Path.{sym, _∙_}
 use Rattle.steps.specs.Did.{puts-length}
-use Rattle.install.specs.Msg2.{gone-leg, gone-room, replaced-removes, replaced-dials, replaced-did}
-use Rattle.install.proofs.msg2.replace.Statement.{statement}
-use Rattle.install.proofs.msg2.replace.Tie as tie
+use Rattle.msg2.specs.Msg2.{gone-leg, gone-room, replaced-removes, replaced-dials, replaced-did}
+use Rattle.msg2.proofs.replace.Statement.{statement}
+use Rattle.msg2.proofs.replace.Tie as tie
 
 remove-at-requires : tie.Need-remove-at-requires
 remove-at-requires c κs = let p = c .before .before .before .before .pre in (p .0, (p .1 .1 .0, (p .1 .1 .1 .0, replaced-removes _ _ _ _ _ _ _ (p .1 .1 .1 .1 .1))))

@@ -1,9 +1,9 @@
--- `install::msg2::meet` meets its contract.
+-- `msg2::meet` meets its contract.
 use mathlib.Core.Path.{sym, _∙_}
 use Rattle.steps.specs.Did.{space-is, did-is, puts-length}
-use Rattle.install.specs.Msg2.{met-moves, met-stays}
-use Rattle.install.proofs.msg2.meet.Statement.{statement}
-use Rattle.install.proofs.msg2.meet.Tie as tie
+use Rattle.msg2.specs.Msg2.{met-moves, met-stays}
+use Rattle.msg2.proofs.meet.Statement.{statement}
+use Rattle.msg2.proofs.meet.Tie as tie
 
 moveto-requires : tie.Need-moveto-requires
 moveto-requires c κs =

@@ -1,10 +1,10 @@
--- `install::msg2::keep` meets its contract.
+-- `msg2::keep` meets its contract.
 use mathlib.Core.Path.{sym, _∙_}
 use Rattle.steps.specs.Did.{puts-length}
-use Rattle.install.specs.Msg2.{kept-ends, kept-resets, kept-did}
+use Rattle.msg2.specs.Msg2.{kept-ends, kept-resets, kept-did}
 use borrow.Author.Needs.{needs}
-use Rattle.install.proofs.msg2.keep.Statement.{statement}
-use Rattle.install.proofs.msg2.keep.Tie as tie
+use Rattle.msg2.proofs.keep.Statement.{statement}
+use Rattle.msg2.proofs.keep.Tie as tie
 
 put-reset-requires : tie.Need-put-reset-requires
 put-reset-requires c κs = kept-resets _ _ _ (c .before .before .before .before .before .end-leg .ensures) (c .before .before .before .before .before .before .before .before .before .before .pre .1 .1) (search (needs, c .before .before .before .before .before .before .before .before .before .before .good .1 .1 .1 .1 .0))

@@ -1,13 +1,13 @@
--- `install::msg2::dialed` meets its contract.
+-- `msg2::dialed` meets its contract.
 use mathlib.Core.Path.{refl, sym, ap, _∙_}
 use lib.ListN.{length}
 use Rattle.laws.specs.Buffer.{kept-length}
 use Rattle.node_addr.specs.declared.Digest as digest
 use Rattle.steps.specs.Did.{puts-length}
-use Rattle.install.specs.Dialed.{dialed-install, dialed-reset, dialed-did}
+use Rattle.msg2.specs.Dialed.{dialed-install, dialed-reset, dialed-did}
 use borrow.Author.Needs.{needs}
-use Rattle.install.proofs.msg2.dialed.Statement.{statement}
-use Rattle.install.proofs.msg2.dialed.Tie as tie
+use Rattle.msg2.proofs.dialed.Statement.{statement}
+use Rattle.msg2.proofs.dialed.Tie as tie
 
 put-install-requires : tie.Need-put-install-requires
 put-install-requires c κs =

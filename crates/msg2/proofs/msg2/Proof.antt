@@ -1,13 +1,13 @@
--- `install::msg2::msg2` meets its contract.
+-- `msg2::msg2` meets its contract.
 use mathlib.Core.Path.{refl, sym, _∙_}
 use Rattle.laws.specs.Place.{place-within}
 use Rattle.node_addr.specs.View.{finds-at, finds-none}
 use Rattle.legs.specs.At.{off, on}
 use Rattle.steps.specs.Did.{puts-length}
-use Rattle.install.specs.Msg2.{msg2-nowhere, msg2-answers, msg2-unnamed}
+use Rattle.msg2.specs.Msg2.{msg2-nowhere, msg2-answers, msg2-unnamed}
 use borrow.Author.Needs.{needs}
-use Rattle.install.proofs.msg2.msg2.Statement.{statement}
-use Rattle.install.proofs.msg2.msg2.Tie as tie
+use Rattle.msg2.proofs.msg2.Statement.{statement}
+use Rattle.msg2.proofs.msg2.Tie as tie
 
 returns : tie.Need-returns
 returns c = let p = c .before .before .before .before .before .before .pre in msg2-nowhere _ _ _ _ _ (p .1 .1) (p .0 .fit) (finds-none (c .before .before .find-leg .ensures) (c .enum-told .given .1))

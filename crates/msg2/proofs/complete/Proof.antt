@@ -1,13 +1,13 @@
--- `install::msg2::complete` meets its contract.
+-- `msg2::complete` meets its contract.
 use mathlib.Core.Path.{sym, _∙_}
 use Rattle.laws.specs.Place.{place-within, find-at}
 use Rattle.node_addr.specs.View.{finds-at, finds-none}
 use Rattle.held.specs.View.{noHeld}
 use Rattle.steps.specs.Did.{space-is, did-is, puts-length}
-use Rattle.install.specs.Msg2.{msg2-room, msg2-dials, msg2-replaces, msg2-meets}
+use Rattle.msg2.specs.Msg2.{msg2-room, msg2-dials, msg2-replaces, msg2-meets}
 use borrow.Author.Needs.{needs}
-use Rattle.install.proofs.msg2.complete.Statement.{statement}
-use Rattle.install.proofs.msg2.complete.Tie as tie
+use Rattle.msg2.proofs.complete.Statement.{statement}
+use Rattle.msg2.proofs.complete.Tie as tie
 
 dialed-requires : tie.Need-dialed-requires
 dialed-requires c κs =

@@ -1,11 +1,11 @@
--- `install::msg2::moveto` meets its contract.
+-- `msg2::moveto` meets its contract.
 use mathlib.Core.Path.{sym, _∙_}
 use Rattle.laws.specs.Buffer.{kept-length}
 use Rattle.steps.specs.Did.{puts-length}
-use Rattle.install.specs.Dialed.{moveto-install, moveto-reset, moveto-retire, moveto-did}
+use Rattle.msg2.specs.Dialed.{moveto-install, moveto-reset, moveto-retire, moveto-did}
 use borrow.Author.Needs.{needs}
-use Rattle.install.proofs.msg2.moveto.Statement.{statement}
-use Rattle.install.proofs.msg2.moveto.Tie as tie
+use Rattle.msg2.proofs.moveto.Statement.{statement}
+use Rattle.msg2.proofs.moveto.Tie as tie
 
 put-install-requires : tie.Need-put-install-requires
 put-install-requires c κs =

@@ -1,0 +1,2 @@
+pub mod Dialed
+pub mod Msg2
