@@ -1,12 +1,13 @@
 -- A leg becomes a holder: what the table shows then, and the outputs that say so.
 use mathlib.Core.Path.{_≡_, sym, ap, subst}
 use mathlib.Core.Option.{none, some}
-use mathlib.Core.List.{List}
-use Prim.Native.Nat.{ℕ, _<_}
+use mathlib.Core.List.{List, _∷_}
+use Prim.Native.Nat.{ℕ, _+_, _≤_, _<_}
+use native.Mathlib.Omega.{arith}
 use lib.ListN.{length, set}
 use Rattle.rules.specs.Base.{Bytes}
 use Rattle.rules.specs.Std.{insert}
-use Rattle.rules.specs.Data.{APeer, Leg, Held, Table}
+use Rattle.rules.specs.Data.{APeer, Leg, Held, Table, Transition, Installed, Output, Install, Reset}
 use Rattle.rules.specs.Links.{hold}
 use Rattle.rules.specs.Legs.{onLink, markUnsent}
 use Rattle.rules.specs.Settle.{withLinks, withLegs, withHeld, dropLeg, earlierHeld, unsent}
@@ -15,6 +16,14 @@ use Rattle.laws.specs.Place.{alter-at, alter-nowhere}
 use Rattle.legs.specs.View.{noLeg}
 use Rattle.state.specs.View.{viewTable, FitTable, Told, nthLeg}
 use Rattle.state.specs.Told.{told-same, told-is, told-then}
+use Rattle.steps.specs.Did.{Space, space-head}
+
+-- ---- room for each output
+pub install-fits : {o : Bytes} {at : ℕ} {s : List Output} (i : Installed) {len : ℕ} → Space o at (Install i ∷ s) → length (i .peer) ≡ 16 → length (i .pair .addr) ≡ len → at + (39 + len) ≤ length o
+install-fits i a h k = omega (arith, space-head (Install i) a)
+
+pub reset-fits : {o : Bytes} {at : ℕ} {s : List Output} (p : Bytes) (how : Transition) → Space o at (Reset p how ∷ s) → length p ≡ 16 → at + 21 ≤ length o
+reset-fits p how a h = omega (arith, space-head (Reset p how) a)
 
 -- ---- the holder h in place of the leg on its link: `installs g h` for a leg g on it
 abbrev pub seated : Held → Table → Table

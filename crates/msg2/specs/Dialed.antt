@@ -16,14 +16,7 @@ use Rattle.output.specs.Write.{puts-one}
 use Rattle.state.specs.View.{viewTable, Told}
 use Rattle.state.specs.Told.{told-then}
 use Rattle.steps.specs.Did.{Space, Did, space-is, did-is, space-head, space-tail, puts-cons}
-use Rattle.install.specs.Install.{seated}
-
--- ---- room for each output
-pub install-fits : {o : Bytes} {at : ℕ} {s : List Output} (i : Installed) {len : ℕ} → Space o at (Install i ∷ s) → length (i .peer) ≡ 16 → length (i .pair .addr) ≡ len → at + (39 + len) ≤ length o
-install-fits i a h k = omega (arith, space-head (Install i) a)
-
-pub reset-fits : {o : Bytes} {at : ℕ} {s : List Output} (p : Bytes) (how : Transition) → Space o at (Reset p how ∷ s) → length p ≡ 16 → at + 21 ≤ length o
-reset-fits p how a h = omega (arith, space-head (Reset p how) a)
+use Rattle.install.specs.Install.{install-fits, reset-fits, seated}
 
 -- ---- the peer is held, heard
 module _ (now : ℕ) (p : Bytes) (g : Leg) (epoch : ℕ) (from : Pair) (how : Transition) (x : Table) {n l : ℕ} (e : n ≡ g .link) (q : l ≡ g .lease) where

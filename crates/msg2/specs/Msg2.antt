@@ -26,7 +26,7 @@ use Rattle.state.specs.View.{viewTable, FitTable, nthLeg, nthHeld}
 use Rattle.state.specs.Told.{told-same}
 use Rattle.steps.specs.Did.{Space, Did, space-is, did-is, did-still, space-left, space-right, did-then}
 use Rattle.steps.specs.Sound.{Sound, owners, links-most, held-room}
-use Rattle.msg2.specs.Dialed.{reset-fits}
+use Rattle.install.specs.Install.{reset-fits}
 
 -- ---- the leaves
 -- the holder h goes, and its peer is installed anew
