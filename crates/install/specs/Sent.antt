@@ -34,8 +34,7 @@ use Rattle.state.specs.View.{viewTable, FitTable, Told, nthLeg, nthLink}
 use Rattle.state.specs.Told.{told-is, told-then}
 use Rattle.steps.specs.Did.{Space, Did, space-is, did-is, space-tail, puts-cons, puts-end, did-still}
 use Rattle.steps.specs.Sound.{Sound, leg-memory, held-room}
-use Rattle.install.specs.Install.{seated}
-use Rattle.install.specs.Install.{install-fits, reset-fits}
+use Rattle.install.specs.Install.{install-fits, reset-fits, seated}
 
 -- ---- the holder that an answer g becomes on its link r
 abbrev shown : ℕ → ℕ → Bytes → ℕ → Bytes → Pair → Held
