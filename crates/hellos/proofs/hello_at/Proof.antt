@@ -9,13 +9,13 @@ use Rattle.hellos.proofs.hello_at.Tie as tie
 returns : tie.Need-returns
 unfolding hello
 returns c =
-    let b = ⟨span-at⟩ .ensures in
-    let m = ⟨span-at2⟩ .ensures in
-    let x = follows-step _ (follows-step _ (follows-step _ (follows-start hello true _ _) (⟨peer-at⟩ .ensures)) (⟨pair-past⟩ .ensures .0)) (b .0) in
-    let y = follows-step _ (follows-step _ (follows-step _ x (⟨digest-at⟩ .ensures)) (⟨word-at⟩ .ensures)) (m .0) in (
-      follows-end _ (follows-step _ y (⟨lease-at⟩ .ensures)) (⟨lease-at⟩ .ensures .room),
+    let b = c .before .before .before .before .before .before .before .before .span-at .ensures in
+    let m = c .before .before .before .before .before .span-at2 .ensures in
+    let x = follows-step _ (follows-step _ (follows-step _ (follows-start hello true _ _) (c .before .before .before .before .before .before .before .before .before .before .peer-at .ensures)) (c .before .before .before .before .before .before .before .before .before .pair-past .ensures .0)) (b .0) in
+    let y = follows-step _ (follows-step _ (follows-step _ x (c .before .before .before .before .before .before .before .digest-at .ensures)) (c .before .before .before .before .before .before .word-at .ensures)) (m .0) in (
+      follows-end _ (follows-step _ y (c .before .before .before .before .lease-at .ensures)) (c .before .before .before .before .lease-at .ensures .room),
       λ e. record {
-        pair = ⟨pair-past⟩ .ensures .1 (stepped-ok (b .0) (stepped-ok (⟨digest-at⟩ .ensures) (stepped-ok (⟨word-at⟩ .ensures) (stepped-ok (m .0) (stepped-ok (⟨lease-at⟩ .ensures) e)))));
+        pair = c .before .before .before .before .before .before .before .before .before .pair-past .ensures .1 (stepped-ok (b .0) (stepped-ok (c .before .before .before .before .before .before .before .digest-at .ensures) (stepped-ok (c .before .before .before .before .before .before .word-at .ensures) (stepped-ok (m .0) (stepped-ok (c .before .before .before .before .lease-at .ensures) e)))));
         message = b .1;
         msg2 = m .1;
       },
