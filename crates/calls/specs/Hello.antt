@@ -1,14 +1,15 @@
--- What a hello says, with the record that its messages stand in, and when it is well formed.
+-- What a hello says, with the record that its pair and its messages stand in, and when it is well formed.
+use lib.ListN.{drop}
 use Rattle.rules.specs.Base.{Bytes}
 use Rattle.rules.specs.Data.{Hello}
-use Rattle.node_addr.specs.View.{viewPair, FitPair}
+use Rattle.node_addr.specs.Place.{pairHere, PairIn}
 use Rattle.fields.specs.Field.{spanOf, FitSpan}
 use Rattle.calls.specs.declared.Hello as hello
 
 abbrev pub helloOf : Bytes → hello.Hello → Hello
 helloOf s h = record {
   peer = h .peer .0;
-  from = viewPair (h .pair);
+  from = pairHere (drop (h .from) s);
   bytes = spanOf s (h .message);
   ephemeral = h .digest .0;
   epoch = h .epoch;
@@ -17,6 +18,6 @@ helloOf s h = record {
 }
 
 pub record FitHello (s : Bytes) (h : hello.Hello) : Type 0 where
-  pub pair : FitPair (h .pair)
+  pub pair : PairIn s (h .from)
   pub message : FitSpan s (h .message)
   pub msg2 : FitSpan s (h .msg2)

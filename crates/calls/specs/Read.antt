@@ -13,7 +13,7 @@ use Rattle.rules.specs.Base.{if_then_else_, option, Bytes}
 use Rattle.rules.specs.Data.{Call}
 use Rattle.rules.specs.Field.{Reader, give, fail}
 use Rattle.rules.specs.Record.{kinds, finished}
-use Rattle.laws.specs.Follow.{Follows}
+use Rattle.laws.specs.Follow.{Stepped, Follows}
 
 -- the fields from `at` on, and nothing more, say c, if they are well formed
 pub record Reads (fields : Reader Call) (at : ℕ) (s : Bytes) (ok : Bool) (c : Call) : Type 0 where
@@ -40,6 +40,15 @@ reads-end {good = good} f h e = record { is = follows-whole good f h e }
 pub whole-ok : {good : Bool} (ok b : Bool) → good ≡ ok && b → good ≡ true → ok ≡ true
 whole-ok true b e q = refl
 whole-ok false b e q = cc
+
+-- where a reader answers yes, all went well before it
+pub stepped-ok : {A : Type 0} {p : Reader A} {ok : Bool} {at : ℕ} {s : Bytes} {ok′ : Bool} {v : A} {at′ : ℕ} → Stepped p ok at s ok′ v at′ → ok′ ≡ true → ok ≡ true
+stepped-ok {A} {p} {ok} {at} {s} {ok′} {v} {at′} t q = go ok ok′ (t .is) q
+  where
+    go : (ok ok′ : Bool) → (if ok then p (drop at s) else none) ≡ (if ok′ then some (v, drop at′ s) else none) → ok′ ≡ true → ok ≡ true
+    go true ok′ e q = refl
+    go false true e q = cc
+    go false false e q = cc
 
 -- the fields of a kind
 abbrev pub kindFields : ℕ → Reader Call

@@ -2,12 +2,11 @@
 use fields::Span;
 use node_addr::Digest;
 use node_addr::NodeAddr;
-use node_addr::Pair;
 
-// The messages stand in the record.
+// The pair, from `from` on, and the messages stand in the record.
 pub struct Hello {
     pub peer: NodeAddr,
-    pub pair: Pair,
+    pub from: usize,
     pub message: Span,
     pub digest: Digest,
     pub epoch: u64,

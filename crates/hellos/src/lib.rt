@@ -9,17 +9,20 @@ use rows::flag_at;
 use rows::lease_at;
 use rows::message_at;
 use rows::pair_at;
+use rows::pair_past;
 use rows::peer_at;
 use rows::span_at;
 use rows::whole;
 use rows::word_at;
+ghost use mathlib.Core.Path.{_≡_};
 ghost use mathlib.Core.Bool.{true};
 ghost use Prim.Native.Nat.{_≤_};
-ghost use lib.ListN.{length};
+ghost use lib.ListN.{length, drop};
 ghost use Rattle.rules.specs.Data.{Call};
 ghost use Rattle.rules.specs.Record.{hello, dialFields, arrivedFields, msg1Fields, replacementFields};
 ghost use Rattle.laws.specs.Follow.{Stepped};
 ghost use Rattle.node_addr.specs.View.{viewPair, viewMessage, FitPair, FitMessage};
+ghost use Rattle.node_addr.specs.Place.{pairHere, PairIn};
 ghost use Rattle.fields.specs.Field.{spanOf, FitSpan};
 ghost use Rattle.calls.specs.Read.{Reads};
 ghost use Rattle.calls.specs.Hello.{helloOf, FitHello};
@@ -34,7 +37,7 @@ pub struct DialFields {
 
 pub struct ArrivedFields {
     pub ok: bool,
-    pub pair: Pair,
+    pub from: usize,
     pub message: Span,
 }
 
@@ -79,21 +82,20 @@ pub fn dial_fields(s: &[u8], at: usize) -> DialFields
     }
 }
 
-// 3 arrived: pair, message.
+// 3 arrived: pair, which stays where it stands, from `from` on, message.
 pub fn arrived_fields(s: &[u8], at: usize) -> ArrivedFields
     requires { ⌜ at ≤ length (now s) ⌝ }
-    ensures { λ r. ⌜ Reads arrivedFields at (now (s .entry)) (r .ok) (Call.Arrived (viewPair (r .pair)) (spanOf (now (s .entry)) (r .message))) ⌝ }
-    ensures { λ r. ⌜ FitPair (r .pair) ⌝ }
+    ensures { λ r. ⌜ Reads arrivedFields at (now (s .entry)) (r .ok) (Call.Arrived (pairHere (drop (r .from) (now (s .entry)))) (spanOf (now (s .entry)) (r .message))) ⌝ }
+    ensures { λ r. ⌜ (r .ok ≡ true → PairIn (now (s .entry)) (r .from)) ⌝ }
     ensures { λ r. ⌜ FitSpan (now (s .entry)) (r .message) ⌝ }
 {
-    let f = pair_at(s, true, at);
+    let f = pair_past(s, true, at);
     let m = span_at(s, f.ok, f.at);
     let good = whole(s, m.ok, m.at);
-    let pair = f.value;
     let message = m.value;
     ArrivedFields {
         ok: good,
-        pair: pair,
+        from: at,
         message: message,
     }
 }
@@ -102,17 +104,16 @@ pub fn arrived_fields(s: &[u8], at: usize) -> ArrivedFields
 pub fn hello_at(s: &[u8], at: usize) -> HelloAt
     requires { ⌜ at ≤ length (now s) ⌝ }
     ensures { λ r. ⌜ Stepped hello true at (now (s .entry)) (r .ok) (helloOf (now (s .entry)) (r .hello)) (r .at) ⌝ }
-    ensures { λ r. ⌜ FitHello (now (s .entry)) (r .hello) ⌝ }
+    ensures { λ r. ⌜ (r .ok ≡ true → FitHello (now (s .entry)) (r .hello)) ⌝ }
 {
     let p = peer_at(s, true, at);
-    let f = pair_at(s, p.ok, p.at);
+    let f = pair_past(s, p.ok, p.at);
     let b = span_at(s, f.ok, f.at);
     let d = digest_at(s, b.ok, b.at);
     let e = word_at(s, d.ok, d.at);
     let m = span_at(s, e.ok, e.at);
     let l = lease_at(s, m.ok, m.at);
     let peer = p.value;
-    let pair = f.value;
     let message = b.value;
     let digest = d.value;
     let msg2 = m.value;
@@ -120,7 +121,7 @@ pub fn hello_at(s: &[u8], at: usize) -> HelloAt
         ok: l.ok,
         hello: Hello {
             peer: peer,
-            pair: pair,
+            from: p.at,
             message: message,
             digest: digest,
             epoch: e.value,
@@ -135,7 +136,7 @@ pub fn hello_at(s: &[u8], at: usize) -> HelloAt
 pub fn msg1_fields(s: &[u8], at: usize) -> Msg1Fields
     requires { ⌜ at ≤ length (now s) ⌝ }
     ensures { λ r. ⌜ Reads msg1Fields at (now (s .entry)) (r .ok) (Call.Msg1 (helloOf (now (s .entry)) (r .hello)) (r .reachable)) ⌝ }
-    ensures { λ r. ⌜ FitHello (now (s .entry)) (r .hello) ⌝ }
+    ensures { λ r. ⌜ (r .ok ≡ true → FitHello (now (s .entry)) (r .hello)) ⌝ }
 {
     let h = hello_at(s, at);
     let f = flag_at(s, h.ok, h.at);
@@ -152,7 +153,7 @@ pub fn msg1_fields(s: &[u8], at: usize) -> Msg1Fields
 pub fn replacement_fields(s: &[u8], at: usize) -> ReplacementFields
     requires { ⌜ at ≤ length (now s) ⌝ }
     ensures { λ r. ⌜ Reads replacementFields at (now (s .entry)) (r .ok) (Call.Replacement (helloOf (now (s .entry)) (r .hello))) ⌝ }
-    ensures { λ r. ⌜ FitHello (now (s .entry)) (r .hello) ⌝ }
+    ensures { λ r. ⌜ (r .ok ≡ true → FitHello (now (s .entry)) (r .hello)) ⌝ }
 {
     let h = hello_at(s, at);
     let good = whole(s, h.ok, h.at);

@@ -13,15 +13,17 @@ use node_addr::NodeAddr;
 use node_addr::Pair;
 use node_addr::place::load_pair;
 use node_addr::place::pair_here;
+use node_addr::place::pair_stands;
 ghost use mathlib.Core.Path.{_≡_};
 ghost use mathlib.Core.Bool.{_||_};
 ghost use Prim.Native.Nat.{_<_};
-ghost use lib.ListN.{length, getD};
+ghost use lib.ListN.{length, drop, getD};
 ghost use Rattle.rules.specs.Base.{any, empty};
 ghost use Rattle.rules.specs.Data.{samePair};
 ghost use Rattle.rules.specs.Links.{numbered, isLeg, provenAt, uses, inUse, indexed};
 ghost use Rattle.laws.specs.Scan.{scan};
 ghost use Rattle.node_addr.specs.View.{FitPair, viewPair, Finds};
+ghost use Rattle.node_addr.specs.Place.{pairHere, PairIn};
 ghost use Rattle.link_entry.specs.View.{outward, FitLinks, viewLinks, linkCount, noLink, dirOf, viewDir, viewLink, FitRec, full, crowding};
 
 // How many there are.
@@ -77,6 +79,16 @@ pub fn setup_is(s: &[u8], i: usize, p: Pair) -> bool
     ensures { λ r. ⌜ r ≡ samePair (viewPair p) (getD (viewLinks (now (s .entry))) i noLink .setup) ⌝ }
 {
     pair_here(s, i * 297 + 8, p)
+}
+
+// Whether the link at a place was set up at the pair that a record spells from `from` on.
+pub fn setup_stands(s: &[u8], i: usize, rec: &[u8], from: usize) -> bool
+    requires { ⌜ FitLinks (now s) ⌝ }
+    requires { ⌜ i < linkCount (now s) ⌝ }
+    requires { ⌜ PairIn (now rec) from ⌝ }
+    ensures { λ r. ⌜ r ≡ samePair (pairHere (drop from (now (rec .entry)))) (getD (viewLinks (now (s .entry))) i noLink .setup) ⌝ }
+{
+    pair_stands(s, i * 297 + 8, rec, from)
 }
 
 // Whether this node dialed the link at a place.

@@ -1,7 +1,7 @@
 use mathlib.Core.Bool.{true}
 use Rattle.rules.specs.Record.{arrivedFields}
 use Rattle.laws.specs.Follow.{follows-start, follows-step}
-use Rattle.calls.specs.Read.{reads-end}
+use Rattle.calls.specs.Read.{reads-end, whole-ok, stepped-ok}
 use borrow.Author.Needs.{needs}
 use Rattle.hellos.proofs.arrived_fields.Statement.{statement}
 use Rattle.hellos.proofs.arrived_fields.Tie as tie
@@ -9,7 +9,11 @@ use Rattle.hellos.proofs.arrived_fields.Tie as tie
 returns : tie.Need-returns
 unfolding arrivedFields
 returns c =
-    (reads-end (follows-step _ (follows-step _ (follows-start arrivedFields true _ _) (c .before .before .before .before .pair-at .ensures .0)) (c .before .before .before .span-at .ensures .0)) (c .before .before .before .span-at .ensures .0 .room) (c .before .before .whole .ensures), (c .before .before .before .before .pair-at .ensures .1, c .before .before .before .span-at .ensures .1))
+    let f = c .before .before .before .pair-past .ensures in
+    let m = c .before .before .span-at .ensures in (
+      reads-end (follows-step _ (follows-step _ (follows-start arrivedFields true _ _) (f .0)) (m .0)) (m .0 .room) (c .before .whole .ensures),
+      (λ e. f .1 (stepped-ok (m .0) (whole-ok _ _ (c .before .whole .ensures) e)), m .1),
+    )
 
 pub arrived-fields-spec : {M : Type 1} → statement M
 arrived-fields-spec = tie.close (tie.spec (λ c κs. search needs) (λ c κs. search needs) (λ c κs. search needs) returns)
