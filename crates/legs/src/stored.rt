@@ -5,12 +5,11 @@ use leg_entry::at::stored_at;
 use link_entry::read::link_count;
 use link_entry::read::no_at;
 use link_entry::read::released_at;
-use link_entry::read::setup_is;
+use link_entry::read::setup_stands;
 use memory::read::get_byte;
 use node_addr::Found;
 use node_addr::LinkNo;
-use node_addr::Pair;
-use node_addr::place::pair_here;
+use node_addr::place::pair_stands;
 ghost use mathlib.Core.Path.{_≡_};
 ghost use mathlib.Core.Bool.{true, false};
 ghost use mathlib.Core.List.{[]};
@@ -19,7 +18,7 @@ ghost use lib.ListN.{length, take, drop, getD};
 ghost use Rattle.rules.specs.Links.{provenAt};
 ghost use Rattle.rules.specs.Settle.{storedIn};
 ghost use Rattle.laws.specs.Chunk.{chunks};
-ghost use Rattle.node_addr.specs.View.{FitPair, viewPair};
+ghost use Rattle.node_addr.specs.Place.{pairHere, PairIn};
 ghost use Rattle.link_entry.specs.View.{pathOf, FitPaths, pathCount, FitLinks, viewLinks, linkCount};
 ghost use Rattle.leg_entry.specs.View.{FitLegs, viewLegs};
 ghost use Rattle.legs.specs.Stored.{Tells, yieldOf, reach, toLook};
@@ -40,18 +39,18 @@ pub fn yielding(s: &[u8], n: LinkNo, rec: &[u8], at: usize, len: usize) -> Found
     Found::At(i)
 }
 
-// Whether the j-th of a link's paths is at the pair and counts.
-fn proven_path(s: &[u8], j: usize, p: Pair) -> bool
+// Whether the j-th of a link's paths is at the pair that the record spells from `from` on, and counts.
+fn proven_path(s: &[u8], j: usize, rec: &[u8], from: usize) -> bool
     requires { ⌜ FitPaths (now s) ⌝ }
     requires { ⌜ j < pathCount (now s) ⌝ }
-    requires { ⌜ FitPair p ⌝ }
-    ensures { λ r. ⌜ r ≡ provenAt (viewPair p) (pathOf (getD (chunks 54 4 (now (s .entry))) j [])) ⌝ }
+    requires { ⌜ PairIn (now rec) from ⌝ }
+    ensures { λ r. ⌜ r ≡ provenAt (pairHere (drop from (now (rec .entry)))) (pathOf (getD (chunks 54 4 (now (s .entry))) j [])) ⌝ }
 {
     let at = j * 54;
     if get_byte(s, at + 53) == 2 {
         return false;
     }
-    pair_here(s, at, p)
+    pair_stands(s, at, rec, from)
 }
 
 // How many addresses of the i-th link are to be looked at, the setup and its paths: none where no leg yields.
@@ -67,31 +66,38 @@ fn addresses(links: &[u8], i: usize, f: Found) -> usize
 }
 
 // Whether the index has the i-th link at the pair by its j-th address: the setup unless released, else a path that counts.
-fn reached(links: &[u8], i: usize, j: usize, p: Pair) -> bool
+fn reached(links: &[u8], i: usize, j: usize, rec: &[u8], from: usize) -> bool
     requires { ⌜ FitLinks (now links) ⌝ }
     requires { ⌜ i < linkCount (now links) ⌝ }
-    requires { ⌜ FitPair p ⌝ }
-    requires { ⌜ j < length (reach (viewPair p) (linkAt (now links) i)) ⌝ }
-    ensures { λ r. ⌜ r ≡ getD (reach (viewPair p) (linkAt (now (links .entry)) i)) j false ⌝ }
+    requires { ⌜ PairIn (now rec) from ⌝ }
+    requires { ⌜ j < length (reach (pairHere (drop from (now rec))) (linkAt (now links) i)) ⌝ }
+    ensures { λ r. ⌜ r ≡ getD (reach (pairHere (drop from (now (rec .entry)))) (linkAt (now (links .entry)) i)) j false ⌝ }
 {
     if j == 0 {
         if released_at(links, i) {
             return false;
         }
-        return setup_is(links, i, p);
+        return setup_stands(links, i, rec, from);
     }
-    let from = i * 297 + 80;
-    let end = from + 217;
-    proven_path(&links[from..end], j - 1, p)
+    let first = i * 297 + 80;
+    let end = first + 217;
+    proven_path(&links[first..end], j - 1, rec, from)
 }
 
-// The place of the leg whose link and msg2 `stored` answers for the n bytes from `at` on. A link whose leg yields none is passed over, whatever its addresses.
-pub fn stored(links: &[u8], legs: &[u8], p: Pair, rec: &[u8], at: usize, n: usize) -> Found
+// The place of the leg whose link and msg2 `stored` answers, for the pair that the record spells from `from` on and its n bytes from `at` on. A link whose leg yields none is passed over, whatever its addresses.
+pub fn stored(
+    links: &[u8],
+    legs: &[u8],
+    rec: &[u8],
+    from: usize,
+    at: usize,
+    n: usize,
+) -> Found
     requires { ⌜ FitLinks (now links) ⌝ }
     requires { ⌜ FitLegs (now legs) ⌝ }
-    requires { ⌜ FitPair p ⌝ }
+    requires { ⌜ PairIn (now rec) from ⌝ }
     requires { ⌜ at + n ≤ length (now rec) ⌝ }
-    ensures { λ r. ⌜ Tells r (now (legs .entry)) (storedIn (viewPair p) (take n (drop at (now (rec .entry)))) (viewLegs (now (legs .entry))) (viewLinks (now (links .entry)))) ⌝ }
+    ensures { λ r. ⌜ Tells r (now (legs .entry)) (storedIn (pairHere (drop from (now (rec .entry)))) (take n (drop at (now (rec .entry)))) (viewLegs (now (legs .entry))) (viewLinks (now (links .entry)))) ⌝ }
 {
     if leg_count(legs) == 0 {
         return Found::Nothing;
@@ -105,7 +111,7 @@ pub fn stored(links: &[u8], legs: &[u8], p: Pair, rec: &[u8], at: usize, n: usiz
         let k = addresses(links, i, f);
         let mut j = 0;
         while j < k {
-            if reached(links, i, j, p) {
+            if reached(links, i, j, rec, from) {
                 found = f;
                 break 'search;
             }

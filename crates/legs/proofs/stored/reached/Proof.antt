@@ -4,26 +4,27 @@ use Prim.Native.Nat.{_+_, _-_, _*_}
 use mathlib.Core.Path.{_≡_}
 use Rattle.legs.specs.Addresses.{setup-released, setup-counts, path-within, path-counts}
 use Rattle.link_entry.specs.Here.{paths-fit}
-use Rattle.node_addr.specs.View.{viewPair}
+use lib.ListN.{drop}
+use Rattle.node_addr.specs.Place.{pairHere}
 use borrow.Author.Needs.{needs}
 use Rattle.legs.proofs.stored.reached.Statement.{statement}
 use Rattle.legs.proofs.stored.reached.Tie as tie
 
 returns : tie.Need-returns
-returns c = setup-released (c .before .before .before .before .pre .0) (c .before .before .before .before .pre .1 .0) (viewPair (c .before .before .before .before .args .p)) (c .before .before .if1 .taken) (c .before .released-at .ensures) (c .if2 .taken)
+returns c = setup-released (c .before .before .before .before .before .pre .0) (c .before .before .before .before .before .pre .1 .0) (pairHere (drop (c .before .before .before .before .before .args .from) (c .before .before .before .before .before .args .rec .now))) (c .before .before .if1 .taken) (c .before .released-at .ensures) (c .if2 .taken)
 
 returns-2 : tie.Need-returns-2
-returns-2 c = setup-counts (c .before .before .before .before .before .pre .0) (c .before .before .before .before .before .pre .1 .0) (viewPair (c .before .before .before .before .before .args .p)) (c .before .before .before .if1 .taken) (c .before .before .released-at .ensures) (c .before .if2 .left) (c .setup-is .ensures)
+returns-2 c = setup-counts (c .before .before .before .before .before .before .pre .0) (c .before .before .before .before .before .before .pre .1 .0) (pairHere (drop (c .before .before .before .before .before .before .args .from) (c .before .before .before .before .before .before .args .rec .now))) (c .before .before .before .if1 .taken) (c .before .before .released-at .ensures) (c .before .if2 .left) (c .setup-stands .ensures)
 
 proven-path-requires : tie.Need-proven-path-requires
 proven-path-requires c κs =
-    let e : c .before .before .before .args .i * 297 + 80 + 217 - (c .before .before .before .args .i * 297 + 80) ≡ 217 = omega arith in
-    (rw e (paths-fit (c .before .before .before .pre .0) (c .before .before .before .pre .1 .0)), (rw e (path-within (c .before .before .before .pre .0) (c .before .before .before .pre .1 .0) (viewPair (c .before .before .before .args .p)) (c .before .if1 .left) (c .before .before .before .pre .1 .1 .1)), search needs))
+    let e : c .before .before .before .before .args .i * 297 + 80 + 217 - (c .before .before .before .before .args .i * 297 + 80) ≡ 217 = omega arith in
+    (rw e (paths-fit (c .before .before .before .before .pre .0) (c .before .before .before .before .pre .1 .0)), (rw e (path-within (c .before .before .before .before .pre .0) (c .before .before .before .before .pre .1 .0) (pairHere (drop (c .before .before .before .before .args .from) (c .before .before .before .before .args .rec .now))) (c .before .if1 .left) (c .before .before .before .before .pre .1 .1 .1)), search needs))
 
 returns-3 : tie.Need-returns-3
 returns-3 c =
-    let e : c .before .before .before .before .args .i * 297 + 80 + 217 - (c .before .before .before .before .args .i * 297 + 80) ≡ 217 = omega arith in
-    path-counts (c .before .before .before .before .pre .0) (c .before .before .before .before .pre .1 .0) (viewPair (c .before .before .before .before .args .p)) (c .before .before .if1 .left) (c .before .before .before .before .pre .1 .1 .1) (rw e at (c .proven-path .ensures))
+    let e : c .before .before .before .before .before .args .i * 297 + 80 + 217 - (c .before .before .before .before .before .args .i * 297 + 80) ≡ 217 = omega arith in
+    path-counts (c .before .before .before .before .before .pre .0) (c .before .before .before .before .before .pre .1 .0) (pairHere (drop (c .before .before .before .before .before .args .from) (c .before .before .before .before .before .args .rec .now))) (c .before .before .if1 .left) (c .before .before .before .before .before .pre .1 .1 .1) (rw e at (c .proven-path .ensures))
 
 pub reached-spec : {M : Type 1} → statement M
 reached-spec =

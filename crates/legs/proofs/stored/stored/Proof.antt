@@ -4,7 +4,7 @@ use Rattle.legs.specs.Stored.{yieldOf, reach, Reaching, reaching-start, 
 use Rattle.leg_entry.specs.View.{viewLegs}
 use Rattle.link_entry.specs.View.{viewLinks, noLink}
 use Rattle.node_addr.specs.declared.Found.the-variants as foundv
-use Rattle.node_addr.specs.View.{viewPair}
+use Rattle.node_addr.specs.Place.{pairHere}
 use Rattle.rules.specs.Settle.{storedOn, storedIn}
 use mathlib.Core.Path.{_≡_, refl, sym, _∙_}
 use native.Mathlib.Omega.{arith}
@@ -15,19 +15,19 @@ use Rattle.legs.proofs.stored.stored.Statement.{statement}
 use Rattle.legs.proofs.stored.stored.Tie as tie
 
 abbrev Inv-loop : tie.InvT-loop
-Inv-loop links legs p rec at n end i found₀ f k j₀ found j =
-    Reaching (storedOn (viewPair p) (take n (drop at rec)) (viewLegs legs) (linkAt links i)) (yieldOf (take n (drop at rec)) (viewLegs legs) (linkAt links i .no)) f legs (reach (viewPair p) (linkAt links i)) k j
+Inv-loop links legs rec from at n end i found₀ f k j₀ found j =
+    Reaching (storedOn (pairHere (drop from rec)) (take n (drop at rec)) (viewLegs legs) (linkAt links i)) (yieldOf (take n (drop at rec)) (viewLegs legs) (linkAt links i .no)) f legs (reach (pairHere (drop from rec)) (linkAt links i)) k j
     × (found ≡ foundv.Nothing)
 
 abbrev μ-loop : tie.MeasureT-loop
-μ-loop links legs p rec at n end i found₀ f k j₀ found j = k - j
+μ-loop links legs rec from at n end i found₀ f k j₀ found j = k - j
 
 abbrev Inv-search : tie.InvT-search
-Inv-search links legs p rec at n end i₀ found₀ i found =
-    Looking (storedIn (viewPair p) (take n (drop at rec)) (viewLegs legs) (viewLinks links)) (viewPair p) (take n (drop at rec)) (viewLegs legs) (viewLinks links) end i × (found ≡ foundv.Nothing)
+Inv-search links legs rec from at n end i₀ found₀ i found =
+    Looking (storedIn (pairHere (drop from rec)) (take n (drop at rec)) (viewLegs legs) (viewLinks links)) (pairHere (drop from rec)) (take n (drop at rec)) (viewLegs legs) (viewLinks links) end i × (found ≡ foundv.Nothing)
 
 abbrev μ-search : tie.MeasureT-search
-μ-search links legs p rec at n end i₀ found₀ i found = end - i
+μ-search links legs rec from at n end i₀ found₀ i found = end - i
 
 returns : tie.Need-returns Inv-loop μ-loop Inv-search μ-search
 returns c = tells-no (looking-none _ _ _ _ (sym (c .before .leg-count .ensures .1) ∙ c .if1 .taken))
@@ -58,9 +58,8 @@ returns-2 c = rw (c .before .search .inv .1) (tells-no (looking-end (c .before .
 
 returns-3 : tie.Need-returns-3 Inv-loop μ-loop Inv-search μ-search
 returns-3 c =
-    let y = c .before .before .before .before .before .before .before in
     reaching-hit (c .before .before .before .loop .inv .0) (c .before .before .loop-test .taken) (c .before .reached .ensures) (c .if2 .taken)
-    (λ z e. looking-hit (y .before .search .inv .0) noLink (y .search-test .taken) e)
+    (λ z e. looking-hit (c .before .before .before .before .before .before .before .before .search .inv .0) noLink (c .before .before .before .before .before .before .before .search-test .taken) e)
 
 pub stored-spec : {M : Type 1} → statement M
 stored-spec =
