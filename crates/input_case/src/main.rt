@@ -10,6 +10,11 @@ use memory::read::get_be;
 ghost use Prim.Native.Nat.{_≤_};
 ghost use lib.ListN.{length};
 
+fn case_lines(s: &[u8]) {
+    call_line(s);
+    new_line(s);
+}
+
 // The next n bytes are a case.
 fn case_of(buf: &mut [u8], n: usize) -> bool
     requires { ⌜ n ≤ length (now buf) ⌝ }
@@ -18,9 +23,16 @@ fn case_of(buf: &mut [u8], n: usize) -> bool
     if got < n {
         return false;
     }
-    call_line(&buf[..n]);
-    new_line(&buf[..n]);
+    case_lines(&buf[..n]);
     true
+}
+
+// A record has at most 65537 bytes, its length bytes counted.
+fn sized_case(n: usize) -> bool
+    requires { ⌜ n ≤ 65537 ⌝ }
+{
+    let mut buf = [0u8; 65537];
+    case_of(&mut buf, n)
 }
 
 // Whether there was one more.
@@ -34,8 +46,7 @@ fn one_case() -> bool {
     if 65537 < n {
         return false;
     }
-    let mut buf = [0u8; 65537];
-    case_of(&mut buf, n)
+    sized_case(n)
 }
 
 // A proved loop has to end, so it counts its turns down, from a number that no run uses up.
