@@ -1,5 +1,6 @@
-// What the programs share that run a module on chosen values: the steps of a script, values told apart by a number, the words of a line.
-// A step is a line: a word, of which the first letter counts, and up to eight decimal numbers, each behind one space; a number that is not there is 0.
+// What the programs share that run a module on chosen values: the steps of a script, values told apart by a number, the words of an answer.
+// A step is a line: a word, of which the first letter counts, and up to eight decimal numbers, each behind one space; a number that is not there is 0, and what follows them is not read.
+// A program writes each line as it is, and behind it the words of its answer.
 pub mod show;
 pub mod values;
 
@@ -85,27 +86,28 @@ fn four_at(s: &[u8], at: usize) -> Four
     }
 }
 
-// Where a word ends: at a byte up to the space.
-fn word_end(s: &[u8], at: usize) -> usize
+// The first byte from a place on that is at most `last`, or the end.
+fn until(s: &[u8], at: usize, last: u8) -> usize
     requires { ⌜ at ≤ length (now s) ⌝ }
     ensures { λ r. ⌜ (at ≤ r) × (r ≤ length (now (s .entry))) ⌝ }
 {
     let mut i = at;
-    while i < s.len() && b' ' < s[i] {
+    while i < s.len() && last < s[i] {
         i += 1;
     }
     i
 }
 
-// The step of the line that begins at a place. The next line is at `at`.
-pub fn step_at(s: &[u8], at: usize) -> Step
+// The step of the line that begins at a place, which is written. The next line is at `at`.
+pub fn next_step(s: &[u8], at: usize) -> Step
     requires { ⌜ at < length (now s) ⌝ }
-    ensures { λ r. ⌜ (at < r .at) × (r .at ≤ length (now (s .entry)) + 1) ⌝ }
+    ensures { λ r. ⌜ at < r .at ⌝ }
 {
     let word = s[at];
-    let n = word_end(s, at);
-    let x = four_at(s, n);
+    let x = four_at(s, until(s, at, b' '));
     let y = four_at(s, x.at);
+    let end = until(s, y.at, b'\n');
+    io::write_all(1, &s[at..end]);
     Step {
         word: word,
         a: x.a,
@@ -116,6 +118,35 @@ pub fn step_at(s: &[u8], at: usize) -> Step
         f: y.b,
         g: y.c,
         h: y.d,
-        at: y.at + 1,
+        at: end + 1,
+    }
+}
+
+fn next_word(text: &[u8], at: usize) -> usize {
+    if at < text.len() {
+        until(text, at, b' ') + 1
+    } else {
+        at
+    }
+}
+
+// Where the k-th word of a text begins.
+fn word_start(text: &[u8], k: usize) -> usize {
+    let mut at = 0;
+    let mut i = 0;
+    while i < k {
+        at = next_word(text, at);
+        i += 1;
+    }
+    at
+}
+
+// The k-th word of a text, as a word of an answer.
+pub fn choice(text: &[u8], k: usize) {
+    let at = word_start(text, k);
+    if at < text.len() {
+        let end = until(text, at, b' ');
+        io::write_all(1, &[b' ']);
+        io::write_all(1, &text[at..end]);
     }
 }

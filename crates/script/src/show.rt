@@ -1,9 +1,5 @@
-// The words of a line: its name, then numbers, 1 and 0 for yes and no, `-` for nothing, each behind a space.
+// The words of an answer: numbers, 1 and 0 for yes and no, `-` for nothing, each behind a space.
 use node_addr::Found;
-
-pub fn name(s: &[u8]) {
-    io::write_all(1, s);
-}
 
 pub fn number(v: u64) {
     io::write_all(1, &[b' ']);

@@ -2,17 +2,17 @@
 use Prim.Native.Nat.{_-_, _≤_}
 use borrow.Author.Needs.{needs}
 use lib.ListN.{length}
-use Rattle.script.proofs.word_end.Statement.{statement}
-use Rattle.script.proofs.word_end.Tie as tie
+use Rattle.script.proofs.until.Statement.{statement}
+use Rattle.script.proofs.until.Tie as tie
 
 abbrev Inv-loop : tie.InvT-loop
-Inv-loop s at i₀ i = (at ≤ i) × (i ≤ length s)
+Inv-loop s at last i₀ i = (at ≤ i) × (i ≤ length s)
 
 abbrev μ-loop : tie.MeasureT-loop
-μ-loop s at i₀ i = length s - i
+μ-loop s at last i₀ i = length s - i
 
-pub word-end-spec : {M : Type 1} → statement M
-word-end-spec =
+pub until-spec : {M : Type 1} → statement M
+until-spec =
     tie.close
     (tie.spec
     Inv-loop
