@@ -1,15 +1,15 @@
 //! Cases for readers of records: slices of bytes, and what is read in each.
 //! A case is the count of its bytes, in 3 bytes, and the bytes: a record with
 //! its length bytes, good or damaged. What is read is two lines in
-//! hexadecimal. The call, `-` if it is none: kind, clock, peer, transport,
-//! address, message, msg2, link, lease, epoch, digest, flag, code, each blank
-//! that its kind does not have. Then the new: its number, and unless that is
-//! 3 me, the first link and the settings.
+//! hexadecimal. The call, `-` if it is none: kind, clock and its kind's
+//! fields in the record's order, a pair as transport and address, codes and
+//! flags as bytes, no bytes as `-`. Then the new: its number, and unless that
+//! is 3 me, the first link and the settings.
 
 use crate::dump::nanos;
 use crate::node::{RECORD, SETTINGS};
 use crate::proto::settle::input::Hello;
-use crate::proto::settle::links::{LinkNo, Pair};
+use crate::proto::settle::links::{LinkNo, Pair, Proven};
 use crate::proto::settle::params::Params;
 use crate::record::{self, Call, NEW, New, Record, STATES};
 use crate::write::{Writer, count, framed, why_code};
@@ -188,88 +188,64 @@ fn edges() -> Vec<Vec<u8>> {
     out
 }
 
-/// A call's fields, each blank that its kind does not have.
-#[derive(Default)]
-struct Flat {
-    kind: u8,
-    peer: [u8; 16],
-    transport: u32,
-    addr: Vec<u8>,
-    message: Vec<u8>,
-    msg2: Vec<u8>,
-    link: u64,
-    lease: u32,
-    epoch: [u8; 8],
-    digest: [u8; 32],
-    flag: bool,
-    code: u8,
+/// The words of a line, in hexadecimal.
+struct Words(Vec<String>);
+
+impl Words {
+    fn byte(&mut self, v: u8) -> &mut Self {
+        self.run(&[v])
+    }
+
+    fn word(&mut self, v: u64) -> &mut Self {
+        self.run(&v.to_be_bytes())
+    }
+
+    fn lease(&mut self, v: u32) -> &mut Self {
+        self.run(&v.to_be_bytes())
+    }
+
+    fn run(&mut self, bytes: &[u8]) -> &mut Self {
+        self.0.push(crate::hex(bytes));
+        self
+    }
+
+    fn pair(&mut self, p: &Pair) -> &mut Self {
+        self.lease(p.transport.0).run(&p.addr.0)
+    }
+
+    fn hello(&mut self, h: &Hello) -> &mut Self {
+        self.run(&h.peer.0).pair(&h.from).run(&h.bytes);
+        self.run(&h.ephemeral.0).run(&h.epoch).run(&h.msg2).lease(h.lease.0)
+    }
+
+    /// A call's fields, in the record's order.
+    fn fields(&mut self, call: &Call) -> &mut Self {
+        match call {
+            Call::Dial(d) => self.run(&d.peer.0).pair(&d.to).run(&d.msg1).lease(d.lease.0),
+            Call::Abandon(n) | Call::Sent(n) | Call::Unsent(n) => self.word(n.0),
+            Call::Arrived(p, m) => self.pair(p).run(m),
+            Call::Msg1(h, reachable) => self.hello(h).byte(u8::from(*reachable)),
+            Call::Replacement(h) => self.hello(h),
+            Call::Msg2(n, e, p) => self.word(n.0).run(e).pair(p),
+            Call::Restarted(p, e) => self.run(&p.0).run(e),
+            Call::Heard(p, from) => self.run(&p.0).pair(from),
+            Call::Remove(p, why) => self.run(&p.0).byte(why_code(*why)),
+            Call::Path(n, p, state) => self.word(n.0).pair(p).byte(state_code(*state)),
+            Call::Release(n, p, keep) => self.word(n.0).pair(p).byte(u8::from(*keep)),
+            Call::Poll | Call::Close | Call::Wake => self,
+        }
+    }
 }
 
-impl Flat {
-    fn pair(&mut self, p: Pair) {
-        self.transport = p.transport.0;
-        self.addr = p.addr.0;
-    }
-
-    fn hello(&mut self, h: Hello) {
-        self.peer = h.peer.0;
-        self.pair(h.from);
-        self.message = h.bytes;
-        self.digest = h.ephemeral.0;
-        self.epoch = h.epoch;
-        self.msg2 = h.msg2;
-        self.lease = h.lease.0;
-    }
-}
-
-fn flat(kind: u8, call: Call) -> Flat {
-    let mut f = Flat { kind, ..Flat::default() };
-    match call {
-        Call::Dial(d) => {
-            f.peer = d.peer.0;
-            f.pair(d.to);
-            f.message = d.msg1;
-            f.lease = d.lease.0;
-        }
-        Call::Abandon(n) | Call::Sent(n) | Call::Unsent(n) => f.link = n.0,
-        Call::Arrived(p, m) => {
-            f.pair(p);
-            f.message = m;
-        }
-        Call::Msg1(h, reachable) => {
-            f.hello(h);
-            f.flag = reachable;
-        }
-        Call::Replacement(h) => f.hello(h),
-        Call::Msg2(n, e, p) => {
-            (f.link, f.epoch) = (n.0, e);
-            f.pair(p);
-        }
-        Call::Restarted(p, e) => (f.peer, f.epoch) = (p.0, e),
-        Call::Heard(p, from) => {
-            f.peer = p.0;
-            f.pair(from);
-        }
-        Call::Remove(p, why) => (f.peer, f.code) = (p.0, why_code(why)),
-        Call::Path(n, p, state) => {
-            f.link = n.0;
-            f.pair(p);
-            let at = STATES.iter().position(|s| *s == state);
-            f.code = count(at.expect("every state is listed"));
-        }
-        Call::Release(n, p, keep) => {
-            (f.link, f.flag) = (n.0, keep);
-            f.pair(p);
-        }
-        Call::Poll | Call::Close | Call::Wake => (),
-    }
-    f
+fn state_code(state: Proven) -> u8 {
+    let at = STATES.iter().position(|s| *s == state);
+    count(at.expect("every state is listed"))
 }
 
 fn lines(slice: &[u8]) -> String {
     match whole(slice).and_then(|body| Some((body.get(1)?, record::read(body, 0)?))) {
         Some((kind, Record::Call(now, call))) => {
-            format!("{}\n{RECORD:02x}\n", call_line(now.0, &flat(*kind, call)))
+            format!("{}\n{RECORD:02x}\n", call_line(*kind, now.0, &call))
         }
         Some((_, Record::New(n))) => format!("-\n{}\n", new_line(&n)),
         None => format!("-\n{RECORD:02x}\n"),
@@ -282,23 +258,10 @@ fn whole(slice: &[u8]) -> Option<&[u8]> {
     (usize::from(u16::from_be_bytes(*length)) == body.len()).then_some(body)
 }
 
-fn call_line(now: u64, f: &Flat) -> String {
-    let words = [
-        format!("{:02x}", f.kind),
-        format!("{now:016x}"),
-        crate::hex(&f.peer),
-        format!("{:08x}", f.transport),
-        crate::hex(&f.addr),
-        crate::hex(&f.message),
-        crate::hex(&f.msg2),
-        format!("{:016x}", f.link),
-        format!("{:08x}", f.lease),
-        crate::hex(&f.epoch),
-        crate::hex(&f.digest),
-        format!("{:02x}", u8::from(f.flag)),
-        format!("{:02x}", f.code),
-    ];
-    words.join(" ")
+fn call_line(kind: u8, now: u64, call: &Call) -> String {
+    let mut words = Words(Vec::new());
+    words.byte(kind).word(now).fields(call);
+    words.0.join(" ")
 }
 
 fn new_line(n: &New) -> String {

@@ -1,4 +1,4 @@
--- The settings, and what holds of the region between calls.
+-- What holds of the region between calls, with the chosen settings.
 use mathlib.Core.Path.{_≡_, refl, sym, ap, subst}
 use mathlib.Core.Bool.{false, _||_}
 use mathlib.Core.Option.{Option, none, some}
@@ -16,26 +16,19 @@ use Rattle.rules.specs.Bounds.{IfAny}
 use Rattle.rules.specs.Gates.{memoryOf, earlierMemory, memory, store, stamped, clear, promoted, expired, differ, counting, countedWith, silenced, ended}
 use Rattle.rules.proofs.Lists.{if-by, eqb-sound}
 use Rattle.rules.proofs.Order.{all-without, all-insert, length-snoc, ascending-without, key-gone, key-insert, store-by}
-use Rattle.memories.specs.View.{Within}
+use Rattle.params.specs.View.{viewParams}
+use Rattle.params.specs.declared.Params as params
+use Rattle.memories.specs.View.{FitParams, Within}
 use Rattle.gates.specs.View.{viewGates, FitGates}
 use Rattle.gates.specs.Order.{Room, within-memory}
 use Rattle.gates.specs.Same.{fit-new, shows-none}
+use Rattle.script.specs.Chosen.{chosen}
 
-abbrev pub chosen : Params
-chosen = record {
-  unheard = 10;
-  interval = 100;
-  replays = 2;
-  silent = 2;
-  silentbase = 30;
-  silentcap = 100;
-  horizon = 500;
-  counted = 2;
-  handshake = 100;
-  resend = 10;
-  resends = 3;
-  pending = 1000;
-}
+pub fit-chosen : {c : params.Params} → viewParams c ≡ chosen → FitParams c
+fit-chosen {c} e =
+    let r : c .replays ≡ 2 = ap (λ (p : Params). p .replays) e in
+    let n : c .counted ≡ 2 = ap (λ (p : Params). p .counted) e in
+    record { replays = omega arith; some-counted = omega arith; counted = omega arith }
 
 -- what the calls require of the region
 pub record Kept (s : Bytes) : Type 0 where

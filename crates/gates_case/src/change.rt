@@ -1,16 +1,17 @@
 // What happens to a peer, where there is room for its memory.
-use crate::values::digest;
-use crate::values::node;
-use crate::values::settings;
 use gates::calls::ended;
 use gates::calls::heard;
 use gates::calls::promoted;
 use gates::calls::stamp;
 use gates::map::memory_count;
+use script::Step;
+use script::values::digest;
+use script::values::node;
+use script::values::settings;
 ghost use Rattle.gates_case.specs.Kept.{Kept};
 
 // A msg1 with a digest promoted it unheard.
-pub fn promote(s: &mut [u8], peer: u8, d: u8, clock: u64)
+fn promote(s: &mut [u8], peer: u64, d: u64, clock: u64)
     requires { ⌜ Kept (now s) ⌝ }
     ensures { λ r. ⌜ Kept (now (s .exit)) ⌝ }
 {
@@ -21,7 +22,7 @@ pub fn promote(s: &mut [u8], peer: u8, d: u8, clock: u64)
 }
 
 // A session ended unheard, of a msg1 with that digest if it came from one (`answered`).
-pub fn end_session(s: &mut [u8], peer: u8, epoch: u64, answered: bool, d: u8, clock: u64)
+fn end(s: &mut [u8], peer: u64, epoch: u64, answered: bool, d: u64, clock: u64)
     requires { ⌜ Kept (now s) ⌝ }
     ensures { λ r. ⌜ Kept (now (s .exit)) ⌝ }
 {
@@ -32,7 +33,7 @@ pub fn end_session(s: &mut [u8], peer: u8, epoch: u64, answered: bool, d: u8, cl
 }
 
 // A heard peering was given up.
-pub fn give_up(s: &mut [u8], peer: u8, clock: u64)
+fn give_up(s: &mut [u8], peer: u64, clock: u64)
     requires { ⌜ Kept (now s) ⌝ }
     ensures { λ r. ⌜ Kept (now (s .exit)) ⌝ }
 {
@@ -42,9 +43,23 @@ pub fn give_up(s: &mut [u8], peer: u8, clock: u64)
 }
 
 // A frame of it authenticated.
-pub fn hear(s: &mut [u8], peer: u8)
+fn hear(s: &mut [u8], peer: u64)
     requires { ⌜ Kept (now s) ⌝ }
     ensures { λ r. ⌜ Kept (now (s .exit)) ⌝ }
 {
     heard(s, node(peer));
+}
+
+pub fn change(s: &mut [u8], t: Step)
+    requires { ⌜ Kept (now s) ⌝ }
+    ensures { λ r. ⌜ Kept (now (s .exit)) ⌝ }
+{
+    let word = t.word;
+    match word {
+        b'p' => promote(s, t.a, t.b, t.c),
+        b'e' => end(s, t.a, t.b, t.c != 0, t.d, t.e),
+        b's' => give_up(s, t.a, t.b),
+        b'h' => hear(s, t.a),
+        _ => {}
+    }
 }

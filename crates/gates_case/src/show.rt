@@ -1,60 +1,116 @@
-// The words of a line.
+// What the region shows, and its judgements.
+use gates::calls::judged;
+use gates::map::find_memory;
+use gates::map::memory_count;
+use gates::map::memory_of;
+use memories::Liveness;
 use memories::Refusal;
+use memories::Silence;
+use memories::Source;
 use memories::Verdict;
-use node_addr::Found;
+use script::Step;
+use script::choice;
+use script::show::number;
+use script::show::perhaps;
+use script::show::place;
+use script::values::digest;
+use script::values::node;
+use script::values::settings;
+ghost use Rattle.gates.specs.View.{FitGates};
 
-pub fn name(s: &[u8]) {
-    io::write_all(1, s);
-}
-
-pub fn number(v: u64) {
-    io::write_all(1, &[b' ']);
-    io::print_decimal(1, v);
-}
-
-pub fn size(n: usize) {
-    number(n as u64);
-}
-
-fn nothing() {
-    io::write_all(1, &[b' ', b'-']);
-}
-
-// A number where there is one, else `-`.
-pub fn perhaps(some: bool, v: u64) {
-    if some {
-        number(v);
-    } else {
-        nothing();
-    }
-}
-
-// A place, `-` for none.
-pub fn place(f: Found) {
-    match f {
-        Found::At(i) => size(i),
-        Found::Nothing => nothing(),
-    }
-}
-
-fn refusal(r: Refusal) {
+fn refusal(r: Refusal) -> usize {
     match r {
-        Refusal::Unheard => name(b" Unheard"),
-        Refusal::Heard => name(b" Heard"),
-        Refusal::Dampened => name(b" Dampened"),
-        Refusal::Replayed => name(b" Replayed"),
-        Refusal::ReplayFull => name(b" ReplayFull"),
-        Refusal::Silent => name(b" Silent"),
+        Refusal::Unheard => 1,
+        Refusal::Heard => 2,
+        Refusal::Dampened => 3,
+        Refusal::Replayed => 4,
+        Refusal::ReplayFull => 5,
+        Refusal::Silent => 6,
     }
 }
 
-pub fn verdict(v: Verdict) {
+fn code(v: Verdict) -> usize {
     match v {
-        Verdict::Pass => name(b" Pass"),
+        Verdict::Pass => 0,
         Verdict::Refuse(r) => refusal(r),
     }
 }
 
-pub fn end_line() {
-    io::write_all(1, &[b'\n']);
+fn verdict(v: Verdict) {
+    choice(
+        b"Pass Unheard Heard Dampened Replayed ReplayFull Silent",
+        code(v),
+    );
+}
+
+fn count(s: &[u8])
+    requires { ⌜ FitGates (now s) ⌝ }
+{
+    number(memory_count(s) as u64);
+}
+
+fn find(s: &[u8], peer: u64)
+    requires { ⌜ FitGates (now s) ⌝ }
+{
+    place(find_memory(s, node(peer)));
+}
+
+// Their epoch, how many, the end of the refusal, how many digests.
+fn silence(silent: bool, x: Silence) {
+    perhaps(x.known, x.epoch);
+    perhaps(silent, x.count as u64);
+    perhaps(x.refusing, x.until);
+    number(x.counted.len as u64);
+}
+
+// The stamp, how many replays, and the silences.
+fn memory(s: &[u8], peer: u64)
+    requires { ⌜ FitGates (now s) ⌝ }
+{
+    let m = memory_of(s, node(peer));
+    let x = m.silence;
+    perhaps(m.stamped, m.stamp);
+    number(m.replays.len as u64);
+    silence(m.silent, x);
+}
+
+fn source(v: u64) -> Source {
+    match v {
+        0 => Source::NotHeld,
+        1 => Source::Restart,
+        2 => Source::Replacement,
+        3 => Source::OwnMsg2,
+        _ => Source::RekeyMsg2,
+    }
+}
+
+fn holder(how: u64, installed: u64, last: u64) -> Liveness {
+    Liveness {
+        held: 0 < how,
+        heard: 1 < how,
+        installed: installed,
+        dated: 2 < how,
+        last: last,
+    }
+}
+
+fn ask(s: &[u8], t: Step)
+    requires { ⌜ FitGates (now s) ⌝ }
+{
+    let c = settings();
+    let l = holder(t.f, t.g, t.h);
+    verdict(judged(s, node(t.a), source(t.b), l, digest(t.c), t.d, t.e, c));
+}
+
+pub fn show(s: &[u8], t: Step)
+    requires { ⌜ FitGates (now s) ⌝ }
+{
+    let word = t.word;
+    match word {
+        b'a' => ask(s, t),
+        b'c' => count(s),
+        b'f' => find(s, t.a),
+        b'm' => memory(s, t.a),
+        _ => {}
+    }
 }

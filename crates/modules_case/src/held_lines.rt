@@ -12,14 +12,15 @@ use held::at::dated_at;
 use held::at::epoch_at;
 use held::at::heard_at;
 use held::at::last_at;
-use held::heard::hear_peer;
+use held::heard::hear_at;
 use held::map::drop_held;
 use held::map::find_held;
 use held::map::held_count;
 use held::map::insert_held;
 use held::record::Held;
-use held::restarted::restart_peer;
+use held::restarted::set_epoch;
 use node_addr::Digest;
+use node_addr::Found;
 use node_addr::LinkNo;
 use node_addr::NodeAddr;
 use node_addr::Pair;
@@ -101,13 +102,31 @@ fn held_line(s: &[u8], i: usize)
     end_line();
 }
 
-// A frame of the first, from another pair.
-fn hear(s: &mut [u8])
+// A frame of a peer, from the pair that a record spells; whether that was the current one.
+fn hear(s: &mut [u8], b: u8)
     requires { ⌜ FitHeld (now s) ⌝ }
     ensures { λ r. ⌜ FitHeld (now (s .exit)) ⌝ }
 {
-    let q = pair(7, 66);
-    hear_peer(s, node(34), 5, q);
+    let rec = [0u8, 0, 0, 7, 1, 66];
+    match find_held(s, node(b)) {
+        Found::At(i) => {
+            truth(hear_at(s, i, 5, &rec, 0));
+        }
+        Found::Nothing => {}
+    }
+}
+
+// A peer restarted.
+fn restart(s: &mut [u8], b: u8)
+    requires { ⌜ FitHeld (now s) ⌝ }
+    ensures { λ r. ⌜ FitHeld (now (s .exit)) ⌝ }
+{
+    match find_held(s, node(b)) {
+        Found::At(i) => {
+            set_epoch(s, i, 9);
+        }
+        Found::Nothing => {}
+    }
 }
 
 fn fill(s: &mut [u8])
@@ -123,8 +142,11 @@ fn change(s: &mut [u8])
     requires { ⌜ FitHeld (now s) ⌝ }
     ensures { λ r. ⌜ FitHeld (now (s .exit)) ⌝ }
 {
-    hear(s);
-    restart_peer(s, node(51), 9);
+    name(b"hear_at");
+    hear(s, 34);
+    hear(s, 34);
+    end_line();
+    restart(s, 51);
     held_line(s, 0);
     held_line(s, 1);
 }

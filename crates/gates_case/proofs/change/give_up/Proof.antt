@@ -8,18 +8,7 @@ stamp-requires : tie.Need-stamp-requires
 stamp-requires c κs = (search needs, (search needs, room-below (search needs)))
 
 returns : tie.Need-returns
-returns c =
-    let d = c .before .before in
-    kept-stamped (d .before .before .before .before .before .before .before .pre) _ (d .stamp .ensures .0) _ (d .stamp .ensures .1)
+returns c = kept-stamped (c .before .before .before .before .before .before .before .before .before .pre) _ (c .before .before .stamp .ensures .0) _ (c .before .before .stamp .ensures .1)
 
 pub give-up-spec : {M : Type 1} → statement M
-give-up-spec =
-    tie.close
-    (tie.spec
-    (λ c κs. search needs)
-    (λ c κs. search needs)
-    stamp-requires
-    (λ c. search needs)
-    returns
-    (λ c. search needs)
-    (λ c. search needs))
+give-up-spec = tie.close (tie.spec (λ c κs. search needs) (λ c κs. search needs) stamp-requires (λ c. search needs) returns (λ c. search needs) (λ c. search needs))

@@ -5,9 +5,7 @@ use Rattle.gates_case.proofs.change.hear.Statement.{statement}
 use Rattle.gates_case.proofs.change.hear.Tie as tie
 
 returns : tie.Need-returns
-returns c =
-    let d = c .before .before in
-    kept-heard (d .before .before .before .before .pre) _ (d .heard .ensures .0) (d .heard .ensures .1)
+returns c = kept-heard (c .before .before .before .before .before .before .pre) _ (c .before .before .heard .ensures .0) (c .before .before .heard .ensures .1)
 
 pub hear-spec : {M : Type 1} → statement M
 hear-spec = tie.close (tie.spec (λ c κs. search needs) (λ c κs. search needs) (λ c. search needs) returns)

@@ -1,0 +1,152 @@
+// What the programs share that run a module on chosen values: the steps of a script, values told apart by a number, the words of an answer.
+// A step is a line: a word, of which the first letter counts, and up to eight decimal numbers, each behind one space; a number that is not there is 0, and what follows them is not read.
+// A program writes each line as it is, and behind it the words of its answer.
+pub mod show;
+pub mod values;
+
+ghost use Prim.Native.Nat.{_+_, _≤_, _<_};
+ghost use lib.ListN.{length};
+
+pub struct Step {
+    pub word: u8,
+    pub a: u64,
+    pub b: u64,
+    pub c: u64,
+    pub d: u64,
+    pub e: u64,
+    pub f: u64,
+    pub g: u64,
+    pub h: u64,
+    pub at: usize,
+}
+
+struct Number {
+    value: u64,
+    at: usize,
+}
+
+struct Four {
+    a: u64,
+    b: u64,
+    c: u64,
+    d: u64,
+    at: usize,
+}
+
+fn is_digit(b: u8) -> bool {
+    48 <= b && b <= 57
+}
+
+// A number with one more digit, the bits past 64 cut.
+fn with_digit(v: u64, b: u8) -> u64 {
+    let tens = std::num::wrapping_add_u64(v << 3, v << 1);
+    std::num::wrapping_add_u64(tens, (b % 16) as u64)
+}
+
+fn number_at(s: &[u8], at: usize) -> Number
+    requires { ⌜ at ≤ length (now s) ⌝ }
+    ensures { λ r. ⌜ (at ≤ r .at) × (r .at ≤ length (now (s .entry))) ⌝ }
+{
+    let mut value = 0;
+    let mut i = at;
+    while i < s.len() && is_digit(s[i]) {
+        value = with_digit(value, s[i]);
+        i += 1;
+    }
+    Number { value: value, at: i }
+}
+
+// The number behind a space, 0 where there is none.
+fn argument(s: &[u8], at: usize) -> Number
+    requires { ⌜ at ≤ length (now s) ⌝ }
+    ensures { λ r. ⌜ (at ≤ r .at) × (r .at ≤ length (now (s .entry))) ⌝ }
+{
+    if at < s.len() {
+        if s[at] == b' ' {
+            return number_at(s, at + 1);
+        }
+    }
+    Number { value: 0, at: at }
+}
+
+fn four_at(s: &[u8], at: usize) -> Four
+    requires { ⌜ at ≤ length (now s) ⌝ }
+    ensures { λ r. ⌜ (at ≤ r .at) × (r .at ≤ length (now (s .entry))) ⌝ }
+{
+    let a = argument(s, at);
+    let b = argument(s, a.at);
+    let c = argument(s, b.at);
+    let d = argument(s, c.at);
+    Four {
+        a: a.value,
+        b: b.value,
+        c: c.value,
+        d: d.value,
+        at: d.at,
+    }
+}
+
+// The first byte from a place on that is at most `last`, or the end.
+fn until(s: &[u8], at: usize, last: u8) -> usize
+    requires { ⌜ at ≤ length (now s) ⌝ }
+    ensures { λ r. ⌜ (at ≤ r) × (r ≤ length (now (s .entry))) ⌝ }
+{
+    let mut i = at;
+    while i < s.len() && last < s[i] {
+        i += 1;
+    }
+    i
+}
+
+// The step of the line that begins at a place, which is written. The next line is at `at`.
+pub fn next_step(s: &[u8], at: usize) -> Step
+    requires { ⌜ at < length (now s) ⌝ }
+    ensures { λ r. ⌜ at < r .at ⌝ }
+{
+    let word = s[at];
+    let x = four_at(s, until(s, at, b' '));
+    let y = four_at(s, x.at);
+    let end = until(s, y.at, b'\n');
+    io::write_all(1, &s[at..end]);
+    Step {
+        word: word,
+        a: x.a,
+        b: x.b,
+        c: x.c,
+        d: x.d,
+        e: y.a,
+        f: y.b,
+        g: y.c,
+        h: y.d,
+        at: end + 1,
+    }
+}
+
+fn next_word(text: &[u8], at: usize) -> usize {
+    if at < text.len() {
+        until(text, at, b' ') + 1
+    } else {
+        at
+    }
+}
+
+// Where the k-th word of a text begins.
+fn word_start(text: &[u8], k: usize) -> usize {
+    let mut at = 0;
+    let mut i = 0;
+    while i < k {
+        at = next_word(text, at);
+        i += 1;
+    }
+    at
+}
+
+// The k-th word of a text, as a word of an answer.
+pub fn choice(text: &[u8], k: usize) {
+    let at = word_start(text, k);
+    if at < text.len() {
+        let end = until(text, at, b' ');
+        io::write_all(1, &[b' ']);
+        io::write_all(1, &text[at..end]);
+    }
+}
