@@ -15,17 +15,18 @@ ghost use Prim.Native.Nat.{_+_, _≤_, _<_};
 ghost use lib.ListN.{length, take, drop};
 ghost use Rattle.rules.specs.Settle as settle;
 ghost use Rattle.node_addr.specs.View.{FitPair, viewPair};
+ghost use Rattle.node_addr.specs.Place.{pairHere, PairIn};
 ghost use Rattle.state.specs.View.{viewTable, FitTable, nthHeld};
 ghost use Rattle.state_asks.specs.Ask.{Yields};
 
-// The place of the leg whose link and stored msg2 answer the n bytes from `at` on, from the pair.
-pub fn stored(t: &[u8], p: Pair, rec: &[u8], at: usize, n: usize) -> Found
+// The place of the leg whose link and stored msg2 answer the n bytes from `at` on, from the pair that the record spells from `from` on.
+pub fn stored(t: &[u8], rec: &[u8], from: usize, at: usize, n: usize) -> Found
     requires { ⌜ FitTable (now t) ⌝ }
-    requires { ⌜ FitPair p ⌝ }
+    requires { ⌜ PairIn (now rec) from ⌝ }
     requires { ⌜ at + n ≤ length (now rec) ⌝ }
-    ensures { λ r. ⌜ Yields r (viewTable (now (t .entry))) (settle.stored (viewPair p) (take n (drop at (now (rec .entry)))) (viewTable (now (t .entry)))) ⌝ }
+    ensures { λ r. ⌜ Yields r (viewTable (now (t .entry))) (settle.stored (pairHere (drop from (now (rec .entry)))) (take n (drop at (now (rec .entry)))) (viewTable (now (t .entry)))) ⌝ }
 {
-    legs::stored::stored(&t[98..9603], &t[9603..20836], p, rec, at, n)
+    legs::stored::stored(&t[98..9603], &t[9603..20836], rec, from, at, n)
 }
 
 // Whether answers are at least the settings' pending.
