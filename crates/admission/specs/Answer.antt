@@ -8,7 +8,7 @@ use lib.Seq.{getD-append-seam}
 use lib.ListN.{length, getD, length-append}
 use Rattle.rules.specs.Base.{Bytes}
 use Rattle.rules.specs.Time.{Params}
-use Rattle.rules.specs.Data.{LinkRec, Inbound, Leg, Table, Hello, Output}
+use Rattle.rules.specs.Data.{Pair, LinkRec, Inbound, Leg, Table, Hello, Output}
 use Rattle.rules.specs.Links.{opened}
 use Rattle.rules.specs.Legs.{answerLeg}
 use Rattle.rules.specs.Settle.{joined, answer}
@@ -42,9 +42,9 @@ leg-is now y b p q f g e = rw (p, q, f, g) at e
 
 -- ---- the answer to y, its leg l
 module _ (x : Table) (now : ℕ) (y : Hello) (b : Bool) {l : Leg} (e : l ≡ answerLeg (x .params) now (x .next) y b) where
-  module _ {t : Bytes} (a : Told t (joined (opened (x .next) (y .from) Inbound) l x)) {k : ℕ} (z : k ≡ length (viewTable t .legs)) where
+  module _ {t : Bytes} {p : Pair} (f : p ≡ y .from) (a : Told t (joined (opened (x .next) p Inbound) l x)) {k : ℕ} (z : k ≡ length (viewTable t .legs)) where
     written : nthLeg (viewTable t) (k - 1) ≡ answerLeg (x .params) now (x .next) y b
-    written = last-is (opened (x .next) (y .from) Inbound) l x a z ∙ e
+    written = last-is (opened (x .next) p Inbound) l x a z ∙ e
 
     pub msg2-room : {o : Bytes} {at : ℕ} → Space o at ((answer now y b x) .outs) → at + (15 + length (answerOf (nthLeg (viewTable t) (k - 1)) .msg2)) ≤ length o
     unfolding answer answerLeg
@@ -54,6 +54,6 @@ module _ (x : Table) (now : ℕ) (y : Hello) (b : Bool) {l : Leg} (e : l ≡ ans
         → Wrote o at j (outputRecord (Output.Answer (nthLeg (viewTable t) (k - 1) .link) false (answerOf (nthLeg (viewTable t) (k - 1)) .msg2))) o₁ r → Did o at t o₁ r (answer now y b x)
     unfolding answer answerLeg
     answer-did {o} {at} {j} {o₁} {r} w = record {
-      table = told-is a (ap (λ (g : Leg). joined (opened (x .next) (y .from) Inbound) g x) e);
+      table = told-is a (ap (λ (q : Pair). joined (opened (x .next) q Inbound) l x) f ∙ ap (λ (g : Leg). joined (opened (x .next) (y .from) Inbound) g x) e);
       puts = puts-one _ (subst (λ (g : Leg). Wrote o at j (outputRecord (Output.Answer (g .link) false (answerOf g .msg2))) o₁ r) written w);
     }

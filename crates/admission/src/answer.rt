@@ -6,6 +6,7 @@ use legs::leg::Leg;
 use legs::leg::answer_leg;
 use links::record::Dir;
 use node_addr::LinkNo;
+use node_addr::place::load_spelt;
 use state::head::next_no;
 use state::head::params_of;
 use state_legs::join::join;
@@ -69,7 +70,7 @@ pub fn answer(
     requires { ⌜ Space (now out) at ((rule.answer clock (helloOf (now s) h) replaces (viewTable (now t))) .outs) ⌝ }
     ensures { λ r. ⌜ Did (now (out .entry)) at (now (t .exit)) (now (out .exit)) r (rule.answer clock (helloOf (now (s .entry)) h) replaces (viewTable (now (t .entry)))) ⌝ }
 {
-    let pair = h.pair;
+    let pair = load_spelt(s, h.from);
     let leg = next_leg(t, s, h, replaces, clock);
     join(t, pair, Dir::Inbound, leg);
     let k = leg_count(t);

@@ -5,16 +5,16 @@ use memories::Denial;
 use memories::Source;
 use node_addr::Found;
 use node_addr::NodeAddr;
-use node_addr::Pair;
 use output::put::put_reject;
 use state_asks::full;
 use state_asks::stored;
 ghost use mathlib.Core.Option.{none};
 ghost use mathlib.Core.List.{[], _∷_};
+ghost use lib.ListN.{drop};
 ghost use Rattle.rules.specs.Base.{if_then_else_};
 ghost use Rattle.rules.specs.Data.{Full, Reject};
 ghost use Rattle.rules.specs.Settle as rule;
-ghost use Rattle.node_addr.specs.View.{FitPair, viewPair};
+ghost use Rattle.node_addr.specs.Place.{pairHere, PairIn};
 ghost use Rattle.fields.specs.Field.{FitSpan, spanOf};
 ghost use Rattle.output.specs.Write.{Puts};
 ghost use Rattle.state.specs.View.{viewTable, FitTable};
@@ -33,14 +33,15 @@ fn put_full(t: &[u8], out: &mut [u8], at: usize) -> usize
     at
 }
 
-pub fn arrived(t: &[u8], out: &mut [u8], at: usize, from: Pair, s: &[u8], m: Span) -> usize
+// The pair stands in the record from `from` on.
+pub fn arrived(t: &[u8], out: &mut [u8], at: usize, s: &[u8], from: usize, m: Span) -> usize
     requires { ⌜ FitTable (now t) ⌝ }
-    requires { ⌜ FitPair from ⌝ }
+    requires { ⌜ PairIn (now s) from ⌝ }
     requires { ⌜ FitSpan (now s) m ⌝ }
-    requires { ⌜ Space (now out) at ((rule.arrived (viewPair from) (spanOf (now s) m) (viewTable (now t))) .outs) ⌝ }
-    ensures { λ r. ⌜ Did (now (out .entry)) at (now (t .entry)) (now (out .exit)) r (rule.arrived (viewPair from) (spanOf (now (s .entry)) m) (viewTable (now (t .entry)))) ⌝ }
+    requires { ⌜ Space (now out) at ((rule.arrived (pairHere (drop from (now s))) (spanOf (now s) m) (viewTable (now t))) .outs) ⌝ }
+    ensures { λ r. ⌜ Did (now (out .entry)) at (now (t .entry)) (now (out .exit)) r (rule.arrived (pairHere (drop from (now (s .entry)))) (spanOf (now (s .entry)) m) (viewTable (now (t .entry)))) ⌝ }
 {
-    match stored(t, from, s, m.at, m.len) {
+    match stored(t, s, from, m.at, m.len) {
         Found::At(i) => put_msg2(t, out, at, i, true),
         Found::Nothing => put_full(t, out, at),
     }
