@@ -10,7 +10,7 @@ ghost use Rattle.state.specs.View.{viewTable, FitTable, Told};
 ghost use Rattle.install.specs.Install.{seated};
 
 // The leg on the holder's link goes, the link is the peer's, and the peer is held.
-pub(crate) fn install(t: &mut [u8], h: Held)
+pub fn install(t: &mut [u8], h: Held)
     requires { ⌜ FitTable (now t) ⌝ }
     requires { ⌜ FitRec h ⌝ }
     requires { ⌜ length (viewTable (now t) .held) < 32 ⌝ }
