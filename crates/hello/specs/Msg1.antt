@@ -1,5 +1,5 @@
 -- What `msg1` comes to.
-use mathlib.Core.Path.{_≡_, refl}
+use mathlib.Core.Path.{_≡_, refl, ap, _∙_}
 use mathlib.Core.Bool.{Bool, true}
 use mathlib.Core.Option.{none, some}
 use mathlib.Core.List.{[], _∷_}
@@ -8,7 +8,7 @@ use native.Mathlib.Omega.{arith}
 use borrow.Author.Tests.{eq-eqb, ne-eqb}
 use lib.ListN.{length}
 use Rattle.rules.specs.Base.{Bytes}
-use Rattle.rules.specs.Data.{Held, Table, Hello, Source, Call, Output, Free, Rekey}
+use Rattle.rules.specs.Data.{Pair, Held, Table, Hello, Source, Call, Output, Free, Rekey}
 use Rattle.rules.specs.Settle.{writes, ok, heldAt, stored, attributed, admit, msg1, numbering, step}
 use Rattle.rules.specs.Output.{outputRecord}
 use Rattle.laws.specs.Splice.{Wrote}
@@ -44,6 +44,9 @@ unfolding step
 step-replacement now y x = refl
 
 -- ---- a Rekey of a peer, and Free
+pub attributed-here : (h : Held) {p q : Pair} (x : Table) {b : Bool} → b ≡ attributed h p x → p ≡ q → b ≡ attributed h q x
+attributed-here h x e f = e ∙ ap (λ (q : Pair). attributed h q x) f
+
 module _ {p : Bytes} {k b : Bool} (e : b ≡ k) {f : Bool} {lease : ℕ} where
   pub rekey-room : {o : Bytes} {at : ℕ} → length p ≡ 16 → Space o at (Rekey p k f ∷ Free lease ∷ []) → at + 22 ≤ length o
   rekey-room l a = omega (arith, l, space-head (Rekey p k f) a)

@@ -6,6 +6,7 @@ use admission::put::put_msg2;
 use calls::Hello;
 use memories::Source;
 use node_addr::Found;
+use node_addr::place::load_spelt;
 use output::put::put_free;
 use output::put::put_rekey;
 use places::exhausted;
@@ -19,11 +20,11 @@ ghost use mathlib.Core.Bool.{true};
 ghost use mathlib.Core.Option.{none, some};
 ghost use mathlib.Core.List.{[], _∷_};
 ghost use Prim.Native.Nat.{_+_, _<_, _^_};
-ghost use lib.ListN.{length};
+ghost use lib.ListN.{length, drop};
 ghost use Rattle.rules.specs.Data as shape;
 ghost use Rattle.rules.specs.Data.{Output, Rekey, Free};
 ghost use Rattle.rules.specs.Settle as rule;
-ghost use Rattle.node_addr.specs.View.{FitPair, viewPair};
+ghost use Rattle.node_addr.specs.Place.{pairHere, PairIn};
 ghost use Rattle.legs.specs.At.{answerOf};
 ghost use Rattle.calls.specs.Hello.{helloOf, FitHello};
 ghost use Rattle.output.specs.Write.{Puts};
@@ -43,16 +44,24 @@ fn repeat(t: &[u8], out: &mut [u8], at: usize, i: usize, lease: u32) -> usize
 }
 
 // The i-th held peer rekeys.
-fn rekey(t: &[u8], out: &mut [u8], at: usize, i: usize, h: Hello, reachable: bool) -> usize
+fn rekey(
+    t: &[u8],
+    out: &mut [u8],
+    at: usize,
+    i: usize,
+    s: &[u8],
+    h: Hello,
+    reachable: bool,
+) -> usize
     requires { ⌜ FitTable (now t) ⌝ }
     requires { ⌜ i < length (viewTable (now t) .held) ⌝ }
-    requires { ⌜ FitPair (h .pair) ⌝ }
-    requires { ⌜ Space (now out) at (Rekey (h .peer .0) (rule.attributed (nthHeld (viewTable (now t)) i) (viewPair (h .pair)) (viewTable (now t))) reachable ∷ Free (h .lease) ∷ []) ⌝ }
-    ensures { λ r. ⌜ Puts (now (out .entry)) at (Rekey (h .peer .0) (rule.attributed (nthHeld (viewTable (now (t .entry))) i) (viewPair (h .pair)) (viewTable (now (t .entry)))) reachable ∷ Free (h .lease) ∷ [])
+    requires { ⌜ PairIn (now s) (h .from) ⌝ }
+    requires { ⌜ Space (now out) at (Rekey (h .peer .0) (rule.attributed (nthHeld (viewTable (now t)) i) (pairHere (drop (h .from) (now s))) (viewTable (now t))) reachable ∷ Free (h .lease) ∷ []) ⌝ }
+    ensures { λ r. ⌜ Puts (now (out .entry)) at (Rekey (h .peer .0) (rule.attributed (nthHeld (viewTable (now (t .entry))) i) (pairHere (drop (h .from) (now (s .entry)))) (viewTable (now (t .entry)))) reachable ∷ Free (h .lease) ∷ [])
         (now (out .exit)) r ⌝ }
 {
     let peer = h.peer;
-    let pair = h.pair;
+    let pair = load_spelt(s, h.from);
     let on_link = attributed(t, i, pair);
     let a = put_rekey(out, at, peer, on_link, reachable);
     put_free(out, a, h.lease)
@@ -83,7 +92,7 @@ fn held_msg1(
     if e != h.epoch {
         return admit_held(t, out, at, i, s, h, Source::Restart, clock);
     }
-    let len = rekey(t, out, at, i, h, reachable);
+    let len = rekey(t, out, at, i, s, h, reachable);
     Answer {
         number: 0,
         len: len,
@@ -132,9 +141,8 @@ fn numbered_msg1(
     ensures { λ r. ⌜ Ruled (now (t .entry)) (now (out .entry)) at (now (t .exit)) (now (out .exit)) (r .number) (r .len)
         (rule.msg1 clock (helloOf (now (s .entry)) h) reachable (viewTable (now (t .entry)))) ⌝ }
 {
-    let pair = h.pair;
     let m = h.message;
-    match stored(t, pair, s, m.at, m.len) {
+    match stored(t, s, h.from, m.at, m.len) {
         Found::At(i) => {
             let len = repeat(t, out, at, i, h.lease);
             Answer {

@@ -11,18 +11,18 @@ use Rattle.hello.proofs.msg1.numbered_msg1.Statement.{statement}
 use Rattle.hello.proofs.msg1.numbered_msg1.Tie as tie
 
 stored-requires : tie.Need-stored-requires
-stored-requires c κs = (c .before .before .before .before .before .before .pre .0 .fit, (c .before .before .before .before .before .before .pre .1 .0 .pair, c .before .before .before .before .before .before .pre .1 .0 .message .room))
+stored-requires c κs = (c .before .before .before .before .before .pre .0 .fit, (c .before .before .before .before .before .pre .1 .0 .pair, c .before .before .before .before .before .pre .1 .0 .message .room))
 
 repeat-requires : tie.Need-repeat-requires
 repeat-requires c κs =
     let y = c .before .before .before .before .before .stored .ensures in
-    let e = msg1-stored _ (helloOf (now (c .before .before .before .before .before .before .before .before .before .before .before .before .args .s)) (c .before .before .before .before .before .before .before .before .before .before .before .before .args .h)) _ _ (yields-some y (c .before .before .before .i .given .1)) in
-    (c .before .before .before .before .before .before .before .before .before .before .before .before .pre .0 .fit, (yields-place y (c .before .before .before .i .given .1), space-result (c .before .before .before .before .before .before .before .before .before .before .before .before .pre .1 .1 .1) e))
+    let e = msg1-stored _ (helloOf (now (c .before .before .before .before .before .before .before .before .before .before .before .args .s)) (c .before .before .before .before .before .before .before .before .before .before .before .args .h)) _ _ (yields-some y (c .before .before .before .i .given .1)) in
+    (c .before .before .before .before .before .before .before .before .before .before .before .pre .0 .fit, (yields-place y (c .before .before .before .i .given .1), space-result (c .before .before .before .before .before .before .before .before .before .before .before .pre .1 .1 .1) e))
 
 new-msg1-requires : tie.Need-new-msg1-requires
 new-msg1-requires c κs =
-    let p = c .before .before .before .before .before .before .before .before .before .before .before .pre .1 in
-    (c .before .before .before .before .before .before .before .before .before .before .before .pre .0, (p .0, (p .1 .0, (yields-none (c .before .before .before .before .stored .ensures) (c .before .before .enum-told .given .1), p .1 .1))))
+    let p = c .before .before .before .before .before .before .before .before .before .before .pre .1 in
+    (c .before .before .before .before .before .before .before .before .before .before .pre .0, (p .0, (p .1 .0, (yields-none (c .before .before .before .before .stored .ensures) (c .before .before .enum-told .given .1), p .1 .1))))
 
 same-length : tie.Need-same-length
 same-length c = refl
@@ -32,11 +32,11 @@ same-length-2 c = puts-length (c .before .before .repeat .ensures)
 
 returns : tie.Need-returns
 returns c =
-    ruled-is (ruled-ok (record { table = told-same (c .before .before .before .before .before .before .before .before .before .before .before .before .before .before .before .pre .0 .fit); puts = c .before .before .repeat .ensures }))
-    (sym (msg1-stored _ (helloOf (now (c .before .before .before .before .before .before .before .before .before .before .before .before .before .before .before .args .s)) (c .before .before .before .before .before .before .before .before .before .before .before .before .before .before .before .args .h)) _ _ (yields-some (c .before .before .before .before .before .before .before .before .stored .ensures) (c .before .before .before .before .before .before .i .given .1))))
+    ruled-is (ruled-ok (record { table = told-same (c .before .before .before .before .before .before .before .before .before .before .before .before .before .before .pre .0 .fit); puts = c .before .before .repeat .ensures }))
+    (sym (msg1-stored _ (helloOf (now (c .before .before .before .before .before .before .before .before .before .before .before .before .before .before .args .s)) (c .before .before .before .before .before .before .before .before .before .before .before .before .before .before .args .h)) _ _ (yields-some (c .before .before .before .before .before .before .before .before .stored .ensures) (c .before .before .before .before .before .before .i .given .1))))
 
 same-length-3 : tie.Need-same-length-3
-same-length-3 c = c .before .before .before .before .new-msg1 .ensures .did .table .fit .size ∙ sym (c .before .before .before .before .before .before .before .before .before .before .before .before .before .before .before .before .pre .0 .fit .size)
+same-length-3 c = c .before .before .before .before .new-msg1 .ensures .did .table .fit .size ∙ sym (c .before .before .before .before .before .before .before .before .before .before .before .before .before .before .before .pre .0 .fit .size)
 
 same-length-4 : tie.Need-same-length-4
 same-length-4 c = puts-length (c .before .before .before .before .new-msg1 .ensures .did .puts)
