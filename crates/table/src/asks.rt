@@ -18,9 +18,9 @@ pub fn arrived_call(t: &mut [u8], out: &mut [u8], s: &[u8], at: usize, clock: u6
     if !r.ok {
         return Answer { number: 3, len: 0 };
     }
-    let pair = r.pair;
+    let from = r.from;
     let message = r.message;
-    let n = arrived(t, out, 0, pair, s, message);
+    let n = arrived(t, out, 0, s, from, message);
     Answer { number: 0, len: n }
 }
 

@@ -4,6 +4,7 @@ use Rattle.rules.specs.Settle.{step}
 use Rattle.steps.specs.Did.{puts-length, ruled-ok}
 use Rattle.table.specs.Ask.{unread, read-space, read-done}
 use borrow.Author.Needs.{needs}
+use borrow.Author.Tests.{not-false}
 use Rattle.table.proofs.asks.msg1_call.Statement.{statement}
 use Rattle.table.proofs.asks.msg1_call.Tie as tie
 
@@ -11,7 +12,7 @@ returns : tie.Need-returns
 returns c = unread (c .before .before .before .before .before .before .pre) (c .before .before .msg1-fields .ensures .0) (c .if1 .taken)
 
 msg1-requires : tie.Need-msg1-requires
-msg1-requires c κs = (c .before .before .before .before .before .before .before .before .before .pre .ready, (c .before .before .before .before .before .msg1-fields .ensures .1, read-space (c .before .before .before .before .before .before .before .before .before .pre) (c .before .before .before .before .before .msg1-fields .ensures .0) (c .before .before .before .if1 .left)))
+msg1-requires c κs = (c .before .before .before .before .before .before .before .before .before .pre .ready, (c .before .before .before .before .before .msg1-fields .ensures .1 (not-false _ (c .before .before .before .if1 .left)), read-space (c .before .before .before .before .before .before .before .before .before .pre) (c .before .before .before .before .before .msg1-fields .ensures .0) (c .before .before .before .if1 .left)))
 
 same-length : tie.Need-same-length
 same-length c = c .before .before .before .before .msg1 .ensures .did .table .fit .size ∙ sym (c .before .before .before .before .before .before .before .before .before .before .before .before .before .before .pre .ready .fit .size)

@@ -4,6 +4,7 @@ use Rattle.rules.specs.Settle.{step}
 use Rattle.steps.specs.Did.{puts-length, ruled-ok}
 use Rattle.table.specs.Ask.{unread, read-space, read-done}
 use borrow.Author.Needs.{needs}
+use borrow.Author.Tests.{not-false}
 use Rattle.table.proofs.asks.replacement_call.Statement.{statement}
 use Rattle.table.proofs.asks.replacement_call.Tie as tie
 
@@ -11,7 +12,7 @@ returns : tie.Need-returns
 returns c = unread (c .before .before .before .before .before .before .pre) (c .before .before .replacement-fields .ensures .0) (c .if1 .taken)
 
 replacement-requires : tie.Need-replacement-requires
-replacement-requires c κs = (c .before .before .before .before .before .before .before .before .before .pre .ready, (c .before .before .before .before .before .replacement-fields .ensures .1, read-space (c .before .before .before .before .before .before .before .before .before .pre) (c .before .before .before .before .before .replacement-fields .ensures .0) (c .before .before .before .if1 .left)))
+replacement-requires c κs = (c .before .before .before .before .before .before .before .before .before .pre .ready, (c .before .before .before .before .before .replacement-fields .ensures .1 (not-false _ (c .before .before .before .if1 .left)), read-space (c .before .before .before .before .before .before .before .before .before .pre) (c .before .before .before .before .before .replacement-fields .ensures .0) (c .before .before .before .if1 .left)))
 
 same-length : tie.Need-same-length
 same-length c = c .before .before .before .before .replacement .ensures .did .table .fit .size ∙ sym (c .before .before .before .before .before .before .before .before .before .before .before .before .before .before .pre .ready .fit .size)
