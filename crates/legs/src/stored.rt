@@ -85,14 +85,7 @@ fn reached(links: &[u8], i: usize, j: usize, rec: &[u8], from: usize) -> bool
 }
 
 // The place of the leg whose link and msg2 `stored` answers, for the pair that the record spells from `from` on and its n bytes from `at` on. A link whose leg yields none is passed over, whatever its addresses.
-pub fn stored(
-    links: &[u8],
-    legs: &[u8],
-    rec: &[u8],
-    from: usize,
-    at: usize,
-    n: usize,
-) -> Found
+pub fn stored(links: &[u8], legs: &[u8], rec: &[u8], from: usize, at: usize, n: usize) -> Found
     requires { ⌜ FitLinks (now links) ⌝ }
     requires { ⌜ FitLegs (now legs) ⌝ }
     requires { ⌜ PairIn (now rec) from ⌝ }
