@@ -17,7 +17,6 @@ use legs::poll::next_wake;
 use legs::poll::wake_at;
 use legs::stored::stored;
 use node_addr::LinkNo;
-use script::Step;
 use script::show::number;
 use script::show::perhaps;
 use script::show::place;
@@ -85,29 +84,28 @@ fn pending(s: &[u8], from: usize, clock: u64)
     }
 }
 
-pub fn show_legs(s: &[u8], t: Step)
+pub fn show_legs(s: &[u8], word: u8, a: u64, b: u64)
     requires { ⌜ FitLegs (now s) ⌝ }
 {
-    let word = t.word;
     match word {
         b'C' => counts(s),
-        b'F' => place(find_leg(s, LinkNo(t.a))),
-        b'L' => leg(s, t.a as usize),
+        b'F' => place(find_leg(s, LinkNo(a))),
+        b'L' => leg(s, a as usize),
         b'W' => wake(s),
-        b'O' => place(find_overdue(s, t.a)),
-        b'P' => pending(s, t.a as usize, t.b),
+        b'O' => place(find_overdue(s, a)),
+        b'P' => pending(s, a as usize, b),
         _ => {}
     }
 }
 
 // The leg that yields its msg2 at a pair for a message, which stands in a record.
-pub fn yields(links: &[u8], s: &[u8], t: Step)
+pub fn yields(links: &[u8], s: &[u8], word: u8, a: u64, b: u64)
     requires { ⌜ FitLinks (now links) ⌝ }
     requires { ⌜ FitLegs (now s) ⌝ }
 {
-    if t.word == b'Y' {
-        let p = pair(7, t.a);
-        let rec = [0u8, byte(t.b), 0u8];
+    if word == b'Y' {
+        let p = pair(7, a);
+        let rec = [0u8, byte(b), 0u8];
         place(stored(links, s, p, &rec, 1, 1));
     }
 }

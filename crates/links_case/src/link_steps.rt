@@ -13,7 +13,6 @@ use links::write::hold_link;
 use links::write::open_link;
 use links::write::set_path;
 use node_addr::LinkNo;
-use script::Step;
 use script::show::number;
 use script::show::place;
 use script::show::truth;
@@ -70,17 +69,16 @@ fn retired(s: &mut [u8], n: u64)
     number(closes.len as u64);
 }
 
-pub fn change_links(s: &mut [u8], t: Step)
+pub fn change_links(s: &mut [u8], word: u8, a: u64, b: u64, c: u64)
     requires { ⌜ FitLinks (now s) ⌝ }
     ensures { λ r. ⌜ FitLinks (now (s .exit)) ⌝ }
 {
-    let word = t.word;
     match word {
-        b'o' => open(s, t.a, t.b),
-        b'p' => path(s, t.a, t.b),
-        b'h' => hold_link(s, LinkNo(t.a), node(t.b)),
-        b'r' => released(s, t.a, t.b, t.c != 0),
-        b'd' => retired(s, t.a),
+        b'o' => open(s, a, b),
+        b'p' => path(s, a, b),
+        b'h' => hold_link(s, LinkNo(a), node(b)),
+        b'r' => released(s, a, b, c != 0),
+        b'd' => retired(s, a),
         _ => {}
     }
 }
@@ -103,15 +101,14 @@ fn used(s: &[u8], b: u64)
     truth(in_use(s, p));
 }
 
-pub fn show_links(s: &[u8], t: Step)
+pub fn show_links(s: &[u8], word: u8, a: u64, b: u64)
     requires { ⌜ FitLinks (now s) ⌝ }
 {
-    let word = t.word;
     match word {
         b'c' => number(count(s) as u64),
-        b'f' => place(find_link(s, LinkNo(t.a))),
-        b'u' => used(s, t.a),
-        b'a' => at(s, t.a as usize, t.b),
+        b'f' => place(find_link(s, LinkNo(a))),
+        b'u' => used(s, a),
+        b'a' => at(s, a as usize, b),
         _ => {}
     }
 }

@@ -23,8 +23,8 @@ fn step_links(s: &mut [u8], t: Step)
     requires { ⌜ FitLinks (now s) ⌝ }
     ensures { λ r. ⌜ FitLinks (now (s .exit)) ⌝ }
 {
-    change_links(s, t);
-    show_links(s, t);
+    change_links(s, t.word, t.a, t.b, t.c);
+    show_links(s, t.word, t.a, t.b);
 }
 
 fn step_legs(links: &[u8], s: &mut [u8], t: Step)
@@ -32,9 +32,9 @@ fn step_legs(links: &[u8], s: &mut [u8], t: Step)
     requires { ⌜ FitLegs (now s) ⌝ }
     ensures { λ r. ⌜ FitLegs (now (s .exit)) ⌝ }
 {
-    change_legs(s, t);
-    show_legs(s, t);
-    yields(links, s, t);
+    change_legs(s, t.word, t.a, t.b, t.c);
+    show_legs(s, t.word, t.a, t.b);
+    yields(links, s, t.word, t.a, t.b);
 }
 
 fn play(links: &mut [u8], legs: &mut [u8], steps: &[u8])
