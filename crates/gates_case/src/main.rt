@@ -8,8 +8,8 @@ mod show;
 
 use crate::change::change;
 use crate::show::show;
-use script::show::end_line;
 use script::next_step;
+use script::show::end_line;
 ghost use Rattle.gates_case.specs.Kept.{Kept};
 
 fn play(s: &mut [u8], steps: &[u8])

@@ -1,11 +1,11 @@
 // What a msg2 makes of its dial.
-use install::install::install;
 use codes::Build;
 use codes::Transition;
 use codes::Why;
 use ending::leg::end_leg;
 use ending::peer::remove_at;
 use held::record::Held;
+use install::install::install;
 use lists::put_retire;
 use node_addr::Found;
 use node_addr::LinkNo;

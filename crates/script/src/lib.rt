@@ -53,7 +53,10 @@ fn number_at(s: &[u8], at: usize) -> Number
         value = with_digit(value, s[i]);
         i += 1;
     }
-    Number { value: value, at: i }
+    Number {
+        value: value,
+        at: i,
+    }
 }
 
 // The number behind a space, 0 where there is none.
