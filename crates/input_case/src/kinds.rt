@@ -8,11 +8,11 @@ use crate::show::end_line;
 use crate::show::link;
 use crate::show::opening;
 use crate::show::pair;
+use crate::show::spelt;
 use crate::show::peer;
 use crate::show::truth;
 use crate::show::word;
 use input::read_opening;
-use node_addr::place::load_spelt;
 use rows::whole;
 use shapes::heard_fields;
 use shapes::link_fields;
@@ -23,7 +23,6 @@ use shapes::remove_fields;
 use shapes::restarted_fields;
 ghost use Prim.Native.Nat.{_≤_};
 ghost use lib.ListN.{length};
-ghost use Rattle.node_addr.specs.Place.{PairIn};
 
 // Abandon, sent, unsent.
 fn link_call(s: &[u8], at: usize, kind: u8, clock: u64)
@@ -61,14 +60,6 @@ fn restarted(s: &[u8], at: usize, kind: u8, clock: u64)
         peer(node);
         word(f.epoch);
     }
-}
-
-// A pair that stands in a record.
-fn spelt(s: &[u8], from: usize)
-    requires { ⌜ PairIn (now s) from ⌝ }
-{
-    let p = load_spelt(s, from);
-    pair(p);
 }
 
 fn heard(s: &[u8], at: usize, kind: u8, clock: u64)

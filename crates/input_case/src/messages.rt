@@ -6,6 +6,7 @@ use crate::show::pair;
 use crate::show::peer;
 use crate::show::run;
 use crate::show::span;
+use crate::show::spelt;
 use crate::show::truth;
 use crate::show::word;
 use calls::Hello;
@@ -47,11 +48,10 @@ pub fn arrived(s: &[u8], at: usize, kind: u8, clock: u64)
     requires { ⌜ at ≤ length (now s) ⌝ }
 {
     let f = arrived_fields(s, at);
-    let from = f.pair;
     let bytes = f.message;
     opening(f.ok, kind, clock);
     if f.ok {
-        pair(from);
+        spelt(s, f.from);
         span(s, bytes);
     }
 }
@@ -65,10 +65,9 @@ fn hello_first(s: &[u8], h: Hello)
     requires { ⌜ FitHello (now s) h ⌝ }
 {
     let node = h.peer;
-    let from = h.pair;
     let bytes = h.message;
     peer(node);
-    pair(from);
+    spelt(s, h.from);
     span(s, bytes);
 }
 

@@ -4,7 +4,9 @@ use node_addr::LinkNo;
 use node_addr::Message;
 use node_addr::NodeAddr;
 use node_addr::Pair;
+use node_addr::place::load_spelt;
 ghost use Rattle.node_addr.specs.View.{FitPair, FitMessage};
+ghost use Rattle.node_addr.specs.Place.{PairIn};
 ghost use Rattle.fields.specs.Field.{FitSpan};
 
 fn wide(x: u8) -> u64 {
@@ -106,4 +108,12 @@ pub fn span(s: &[u8], m: Span)
     let at = m.at;
     let end = at + m.len;
     run(&s[at..end]);
+}
+
+// A pair that stands in a record.
+pub fn spelt(s: &[u8], from: usize)
+    requires { ⌜ PairIn (now s) from ⌝ }
+{
+    let p = load_spelt(s, from);
+    pair(p);
 }
