@@ -4,7 +4,6 @@ use gates::calls::heard;
 use gates::calls::promoted;
 use gates::calls::stamp;
 use gates::map::memory_count;
-use script::Step;
 use script::values::digest;
 use script::values::node;
 use script::values::settings;
@@ -50,16 +49,15 @@ fn hear(s: &mut [u8], peer: u64)
     heard(s, node(peer));
 }
 
-pub fn change(s: &mut [u8], t: Step)
+pub fn change(s: &mut [u8], word: u8, a: u64, b: u64, c: u64, d: u64, e: u64)
     requires { ⌜ Kept (now s) ⌝ }
     ensures { λ r. ⌜ Kept (now (s .exit)) ⌝ }
 {
-    let word = t.word;
     match word {
-        b'p' => promote(s, t.a, t.b, t.c),
-        b'e' => end(s, t.a, t.b, t.c != 0, t.d, t.e),
-        b's' => give_up(s, t.a, t.b),
-        b'h' => hear(s, t.a),
+        b'p' => promote(s, a, b, c),
+        b'e' => end(s, a, b, c != 0, d, e),
+        b's' => give_up(s, a, b),
+        b'h' => hear(s, a),
         _ => {}
     }
 }

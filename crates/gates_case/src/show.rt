@@ -84,33 +84,32 @@ fn source(v: u64) -> Source {
     }
 }
 
-fn holder(how: u64, installed: u64, last: u64) -> Liveness {
+pub fn live(holder: u64, installed: u64, last: u64) -> Liveness {
     Liveness {
-        held: 0 < how,
-        heard: 1 < how,
+        held: 0 < holder,
+        heard: 1 < holder,
         installed: installed,
-        dated: 2 < how,
+        dated: 2 < holder,
         last: last,
     }
 }
 
-fn ask(s: &[u8], t: Step)
+pub fn ask(s: &[u8], t: Step, l: Liveness)
     requires { ⌜ FitGates (now s) ⌝ }
 {
-    let c = settings();
-    let l = holder(t.f, t.g, t.h);
-    verdict(judged(s, node(t.a), source(t.b), l, digest(t.c), t.d, t.e, c));
+    if t.word == b'a' {
+        let c = settings();
+        verdict(judged(s, node(t.a), source(t.b), l, digest(t.c), t.d, t.e, c));
+    }
 }
 
-pub fn show(s: &[u8], t: Step)
+pub fn show(s: &[u8], word: u8, a: u64)
     requires { ⌜ FitGates (now s) ⌝ }
 {
-    let word = t.word;
     match word {
-        b'a' => ask(s, t),
         b'c' => count(s),
-        b'f' => find(s, t.a),
-        b'm' => memory(s, t.a),
+        b'f' => find(s, a),
+        b'm' => memory(s, a),
         _ => {}
     }
 }

@@ -104,8 +104,7 @@ pub fn yields(links: &[u8], s: &[u8], word: u8, a: u64, b: u64)
     requires { ⌜ FitLegs (now s) ⌝ }
 {
     if word == b'Y' {
-        let p = pair(7, a);
-        let rec = [0u8, byte(b), 0u8];
-        place(stored(links, s, p, &rec, 1, 1));
+        let rec = [0u8, 0u8, 0u8, 7u8, 1u8, byte(a), byte(b)];
+        place(stored(links, s, &rec, 0, 6, 1));
     }
 }

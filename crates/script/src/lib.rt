@@ -1,5 +1,5 @@
 // What the programs share that run a module on chosen values: the steps of a script, values told apart by a number, the words of an answer.
-// A step is a line: a word, of which the first letter counts, and up to eight decimal numbers, each behind one space; a number that is not there is 0, and what follows them is not read.
+// A step is a line: a word, of which the first letter counts, and up to five decimal numbers, each behind one space; a number that is not there is 0, and what follows them is not read.
 // A program writes each line as it is, and behind it the words of its answer.
 pub mod show;
 pub mod values;
@@ -14,9 +14,6 @@ pub struct Step {
     pub c: u64,
     pub d: u64,
     pub e: u64,
-    pub f: u64,
-    pub g: u64,
-    pub h: u64,
     pub at: usize,
 }
 
@@ -25,11 +22,12 @@ struct Number {
     at: usize,
 }
 
-struct Four {
+struct Five {
     a: u64,
     b: u64,
     c: u64,
     d: u64,
+    e: u64,
     at: usize,
 }
 
@@ -72,7 +70,7 @@ fn argument(s: &[u8], at: usize) -> Number
     Number { value: 0, at: at }
 }
 
-fn four_at(s: &[u8], at: usize) -> Four
+fn five_at(s: &[u8], at: usize) -> Five
     requires { ⌜ at ≤ length (now s) ⌝ }
     ensures { λ r. ⌜ (at ≤ r .at) × (r .at ≤ length (now (s .entry))) ⌝ }
 {
@@ -80,12 +78,14 @@ fn four_at(s: &[u8], at: usize) -> Four
     let b = argument(s, a.at);
     let c = argument(s, b.at);
     let d = argument(s, c.at);
-    Four {
+    let e = argument(s, d.at);
+    Five {
         a: a.value,
         b: b.value,
         c: c.value,
         d: d.value,
-        at: d.at,
+        e: e.value,
+        at: e.at,
     }
 }
 
@@ -107,9 +107,8 @@ pub fn next_step(s: &[u8], at: usize) -> Step
     ensures { λ r. ⌜ at < r .at ⌝ }
 {
     let word = s[at];
-    let x = four_at(s, until(s, at, b' '));
-    let y = four_at(s, x.at);
-    let end = until(s, y.at, b'\n');
+    let x = five_at(s, until(s, at, b' '));
+    let end = until(s, x.at, b'\n');
     io::write_all(1, &s[at..end]);
     Step {
         word: word,
@@ -117,10 +116,7 @@ pub fn next_step(s: &[u8], at: usize) -> Step
         b: x.b,
         c: x.c,
         d: x.d,
-        e: y.a,
-        f: y.b,
-        g: y.c,
-        h: y.d,
+        e: x.e,
         at: end + 1,
     }
 }

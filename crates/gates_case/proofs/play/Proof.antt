@@ -7,10 +7,10 @@ use Rattle.gates_case.proofs.play.Statement.{statement}
 use Rattle.gates_case.proofs.play.Tie as tie
 
 abbrev Inv-loop : tie.InvT-loop
-Inv-loop s₀ steps at₀ s at = Kept s
+Inv-loop s₀ steps l₀ at₀ s l at = Kept s
 
 abbrev μ-loop : tie.MeasureT-loop
-μ-loop s₀ steps at₀ s at = length steps - at
+μ-loop s₀ steps l₀ at₀ s l at = length steps - at
 
 pub play-spec : {M : Type 1} → statement M
 play-spec =
@@ -18,6 +18,7 @@ play-spec =
     (tie.spec
     Inv-loop
     μ-loop
+    (λ c κs. search needs)
     (λ c. search needs)
     (λ c κs. search needs)
     (λ c κs. search needs)
