@@ -22,7 +22,6 @@ use script::show::perhaps;
 use script::show::place;
 use script::show::truth;
 use script::values::byte;
-use script::values::pair;
 ghost use Prim.Native.Nat.{_<_};
 ghost use Rattle.links.specs.View.{FitLinks};
 ghost use Rattle.legs.specs.View.{FitLegs, legCount};
