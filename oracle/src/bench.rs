@@ -16,6 +16,8 @@ const LINKS: [usize; 3] = [1, 8, 32];
 
 /// report RUNS MACHINE CODE < tapes: the page, but for the instructions.
 /// count library|rust KEY LINKS TURNS: runs so many turns on one side.
+/// copied KEY LINKS TURNS: the bytes that the library copied in so many turns
+/// and what came before them (in the build that counts).
 pub fn run(words: &[&str]) -> Option<Vec<u8>> {
     match words {
         ["report", runs, machine, code] => {
@@ -30,6 +32,13 @@ pub fn run(words: &[&str]) -> Option<Vec<u8>> {
             let case = all().find(|c| c.key == *key)?;
             measure::count(case, links.parse().ok()?, ours, turns.parse().ok()?);
             Some(Vec::new())
+        }
+        #[cfg(settle_counted)]
+        ["copied", key, links, turns] => {
+            let case = all().find(|c| c.key == *key)?;
+            measure::count(case, links.parse().ok()?, true, turns.parse().ok()?);
+            let copied = library::counted::COPIED.load(std::sync::atomic::Ordering::Relaxed);
+            Some(format!("{copied}\n").into_bytes())
         }
         _ => None,
     }

@@ -73,3 +73,25 @@ impl Ours {
         &self.out[..len]
     }
 }
+
+/// The bytes that the library copies. In the build that counts, its calls of memcpy and memmove lead here (oracle/bench).
+#[cfg(settle_counted)]
+pub mod counted {
+    use std::sync::atomic::{AtomicUsize, Ordering::Relaxed};
+
+    pub static COPIED: AtomicUsize = AtomicUsize::new(0);
+
+    #[unsafe(no_mangle)]
+    unsafe extern "C" fn counted_move(to: *mut u8, from: *const u8, n: usize) -> *mut u8 {
+        COPIED.fetch_add(n, Relaxed);
+        // SAFETY: the caller keeps to memmove's contract.
+        unsafe { std::ptr::copy(from, to, n) };
+        to
+    }
+
+    #[unsafe(no_mangle)]
+    unsafe extern "C" fn counted_copy(to: *mut u8, from: *const u8, n: usize) -> *mut u8 {
+        // SAFETY: memcpy's contract is more than memmove's.
+        unsafe { counted_move(to, from, n) }
+    }
+}
