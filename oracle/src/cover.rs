@@ -175,6 +175,11 @@ impl Counts {
                 self.add(format!("{row} 32"), 1);
             }
         }
+        let silent = node.table.params().silent;
+        let exponents = node.table.gates().memories().into_iter().filter_map(|m| m.silence?.count.checked_sub(silent));
+        for exponent in exponents.filter(|e| *e > 30) {
+            self.add(format!("end silence exponent {}", if exponent > 31 { "32 or more" } else { "31" }), 1);
+        }
     }
 
     fn text(&self) -> String {

@@ -113,6 +113,7 @@ impl Generator {
         };
         let pending = match kind {
             Settings::Long => self.r.pick(&[1000, 1000, 1000, 40, 31, 16]).unwrap_or(0),
+            Settings::Silences => 1000,
             Settings::Extreme => self.r.pick(&[0, 1, 2, 3, u64::MAX]).unwrap_or(0),
             Settings::Gates => self.r.pick(&[2, 5, 1000, 1000]).unwrap_or(0),
             _ => self.r.pick(&[0, 1, 2, 3, 3, 1000, 1000, u64::MAX]).unwrap_or(0),
@@ -134,6 +135,11 @@ impl Generator {
             Settings::Extreme if i == 5 && self.r.chance(40) => u64::MAX >> 1,
             Settings::Extreme if i == 6 && self.r.chance(40) => 1 + self.r.below(4),
             Settings::Extreme => self.wild(),
+            Settings::Silences if i == 0 => 0,
+            Settings::Silences if i == 1 => self.r.below(40),
+            Settings::Silences if i == 2 => 1 + self.r.below(3),
+            Settings::Silences if i == 3 => self.r.pick(&[5, 1 << 33, 1 << 40, u64::MAX]).unwrap_or(0),
+            Settings::Silences => 1 << 50,
             Settings::Gates if i == 2 => 2 + self.r.below(30),
             Settings::Gates if i == 3 => self.r.below(200),
             Settings::Gates if i == 4 => self.r.below(80),
@@ -175,7 +181,11 @@ impl Generator {
             self.about = self.peer();
             self.epoch_planned = self.r.below(self.profile.epochs);
             if let Some(node) = &self.tape.node {
-                self.plan = plan::draw(node.table.params(), &mut self.r).into();
+                self.plan = match self.profile.settings {
+                    Settings::Silences => plan::long_silence(&mut self.r),
+                    _ => plan::draw(node.table.params(), &mut self.r),
+                }
+                .into();
             }
         }
         while let Some(item) = self.plan.pop_front() {
@@ -243,8 +253,9 @@ impl Generator {
         match item {
             Item::Wait(by) => Some(self.now.saturating_add(by)),
             Item::Due => Some(self.later_due()),
-            Item::Until => Some(self.silence_end(false)),
-            Item::Horizon => Some(self.silence_end(true)),
+            Item::Over => Some(self.silence_end(false)),
+            Item::Until => Some(self.silence_end(false).saturating_sub(self.r.chance(35).into())),
+            Item::Horizon => Some(self.silence_end(true).saturating_sub(self.r.chance(35).into())),
             Item::Woken => {
                 let at = self.node().and_then(|n| n.table.next_wake());
                 Some(at.map_or(self.now, |t| t.0))
@@ -538,16 +549,15 @@ impl Generator {
     }
 
     /// Where the refusal of the planned peer ends, or its silence is
-    /// forgotten, or just before.
-    fn silence_end(&mut self, horizon: bool) -> u64 {
+    /// forgotten.
+    fn silence_end(&self, horizon: bool) -> u64 {
         let at = self.node().and_then(|n| {
             let mut known = n.table.gates().memories().into_iter();
             let silence = known.find(|m| m.peer == self.about)?.silence?;
             let after = if horizon { nanos(n.table.params().horizon) } else { 0 };
             Some(silence.until.unwrap_or(silence.last).0.saturating_add(after))
         });
-        let at = at.unwrap_or(self.now);
-        if self.r.chance(35) { at.saturating_sub(1) } else { at }
+        at.unwrap_or(self.now)
     }
 
     /// A time that decides something, or one beside it.

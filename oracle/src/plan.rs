@@ -13,8 +13,10 @@ pub enum Item {
     /// The clock goes to one of the next times that decide something.
     Due,
     /// The clock goes to the end of the peer's refusal.
+    Over,
+    /// The same, or just before.
     Until,
-    /// The clock goes to where the peer's silence is forgotten.
+    /// The clock goes to where the peer's silence is forgotten, or just before.
     Horizon,
     /// The clock goes to the next wake.
     Woken,
@@ -29,6 +31,18 @@ pub enum Item {
     /// The last answer or msg1 is sent.
     Sent,
     Remove,
+}
+
+/// Holders end unheard until the factor of the refusal no longer fits.
+pub fn long_silence(r: &mut Random) -> Vec<Item> {
+    let mut items = Vec::new();
+    for _ in 0..30 {
+        items.extend([Item::Over, new_peer(r, 100), Item::Sent, Item::Remove]);
+    }
+    for _ in 0..16 {
+        items.extend([Item::Until, new_peer(r, 100), Item::Sent, Item::Remove]);
+    }
+    items
 }
 
 pub fn draw(p: &Params, r: &mut Random) -> Vec<Item> {

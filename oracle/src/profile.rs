@@ -3,7 +3,8 @@
 
 use crate::random::Random;
 
-pub const NAMES: [&str; 7] = ["few", "full", "gates", "extreme", "last", "damaged", "mixed"];
+pub const NAMES: [&str; 8] =
+    ["few", "full", "gates", "silences", "extreme", "last", "damaged", "mixed"];
 
 #[derive(Clone, Copy, PartialEq, Eq)]
 pub enum Settings {
@@ -16,6 +17,8 @@ pub enum Settings {
     Extreme,
     /// Long handshakes, so that links and names fill up.
     Long,
+    /// Refusals that start at a nanosecond or two and are never forgotten.
+    Silences,
 }
 
 #[derive(Clone, Copy, PartialEq, Eq)]
@@ -86,6 +89,14 @@ pub fn named(name: &str, r: &mut Random) -> Option<Profile> {
         "few" => Profile { peers: 3, pairs: 3, epochs: 2, weights: FEW, settings: either(r), ..even },
         "full" => full(r, even),
         "gates" => gates(r, even),
+        "silences" => Profile {
+            peers: 1,
+            epochs: 1,
+            plan: 100,
+            calls: 140,
+            settings: Settings::Silences,
+            ..even
+        },
         "extreme" => Profile { settings: Settings::Extreme, pace: Pace::Wild, plan: 4, ..even },
         "last" => Profile { near_last: Some(r.below(12)), settings: either(r), ..even },
         "damaged" => Profile { damage: 4 + r.below(40), settings: either(r), ..even },

@@ -7,7 +7,8 @@ use crate::profile::NAMES;
 use crate::tape;
 
 /// 30 tapes of 30 calls from each profile, and longer ones where 30 calls do
-/// not reach: the limits of a full table, and silences of a held peer.
+/// not reach: the limits of a full table, silences of a held peer, and
+/// silences whose factor no longer fits.
 pub fn set() -> Option<Vec<u8>> {
     let mut out = Vec::new();
     for name in NAMES {
@@ -20,6 +21,9 @@ pub fn set() -> Option<Vec<u8>> {
     }
     for seed in 30..50 {
         add(&mut out, &generate::tape("gates", seed, None)?);
+    }
+    for seed in 0..6 {
+        add(&mut out, &generate::tape("silences", seed, None)?);
     }
     Some(out)
 }
