@@ -65,7 +65,7 @@ fn the_original_answers_the_same() {
         tapes += 1;
         rest = more;
     }
-    assert_eq!(tapes, 236);
+    assert_eq!(tapes, 272);
     assert!(told == stored("stdout"), "the bytes differ");
 }
 
