@@ -1,26 +1,38 @@
 -- What the first record of a tape and each other one make, as the rules' tape has it (rules Tape).
-use mathlib.Core.Path.{_≡_, refl, sym, ap, _∙_, subst}
-use mathlib.Core.List.{List, [], _∷_, _++_, append-assoc}
+use mathlib.Core.Path.{_≡_, sym, ap, _∙_, subst}
+use mathlib.Core.List.{_++_, append-assoc}
 use Prim.Native.Nat.{ℕ, _+_, _≤_}
 use native.Mathlib.Omega.{arith}
 use lib.Seq.{take-at, take-append-le, length-take-le}
 use lib.ListN.{length, take, drop, length-append, length-drop}
-use Rattle.rules.specs.Base.{Bytes}
-use Rattle.rules.specs.Data.{Table, Result}
+use Rattle.rules.specs.Base.{Bytes, All}
+use Rattle.rules.specs.Data.{Result}
 use Rattle.rules.specs.Output.{outputs, doneRecord}
 use Rattle.rules.specs.Entry as rule
-use Rattle.rules.specs.Tape.{calls}
+use Rattle.rules.specs.Bounds.{IsByte}
 use Rattle.state.specs.View.{viewTable}
 use Rattle.laws.specs.Splice.{splice, Wrote, length-splice}
 use Rattle.settle.specs.Contract.{Left, Begun, Called, ruled, ruledBytes}
 
 -- new's answer, and its Done
 pub record Opens (t s t′ o : Bytes) (n : ℕ) : Type 0 where
+  pub bytes : All IsByte s
   pub begun : Begun t s t′ n
   pub done : take 5 o ≡ doneRecord n
 
+-- call, lent 10,240 bytes of any contents, took the table t to t′
+pub record Calls (t s t′ : Bytes) : Type 0 where
+  pub lent : Bytes
+  pub last : Bytes
+  pub number : ℕ
+  pub written : ℕ
+  pub bytes : All IsByte s
+  pub size : length lent ≡ 10_240
+  pub called : Called t s lent t′ last number written
+
 -- a call's outputs and its Done, and the table for the next
 pub record Turns (t s t′ o : Bytes) (r : ℕ) : Type 0 where
+  pub calls : Calls t s t′
   pub within : r ≤ length o
   pub table : viewTable t′ ≡ (rule.call s 10_240 (viewTable t)) .step .table
   pub written : take r o ≡ outputs ((rule.call s 10_240 (viewTable t)) .step .outs) ++ doneRecord ((rule.call s 10_240 (viewTable t)) .number)
@@ -36,8 +48,8 @@ wrote-start {o} {ys} {at} {n} {r} {bs} w =
     ap (λ (y : Bytes). take r y) (w .is ∙ sym (append-assoc (take at o) bs (drop (at + length bs) o)))
     ∙ take-at (take at o ++ bs) (drop (at + length bs) o) r (length-append (take at o) bs ∙ omega (arith, l, w .size, w .end))
 
-pub opens : {t s t′ o ys : Bytes} {n r : ℕ} → Begun t s t′ n → Wrote o 0 5 (doneRecord n) ys r → Opens t s t′ ys n
-opens {ys = ys} {n} b w = record { begun = b; done = subst (λ (i : ℕ). take i ys ≡ doneRecord n) (w .end) (wrote-start w) }
+pub opens : {t s t′ o ys : Bytes} {n r : ℕ} → All IsByte s → Begun t s t′ n → Wrote o 0 5 (doneRecord n) ys r → Opens t s t′ ys n
+opens {ys = ys} {n} i b w = record { bytes = i; begun = b; done = subst (λ (i : ℕ). take i ys ≡ doneRecord n) (w .end) (wrote-start w) }
 
 -- a call's outputs leave room for Done
 pub turn-size : {t lo t′ l : Bytes} {n k : ℕ} (s : Bytes) → Called t s lo t′ l n k → length l ≡ 10_240 → k ≤ 10_240
@@ -53,13 +65,14 @@ turn-room {l = l} s o c h e = omega (arith, turn-size s c h, h, length-append l 
 pub turn-length : {n : ℕ} (l o : Bytes) → length l ≡ 10_240 → length o ≡ 10_245 → n ≡ length (l ++ drop 10_240 (drop 0 o)) → n ≡ length o
 turn-length l o h e g = omega (arith, g, h, e, length-append l (drop 10_240 o), length-drop 10_240 o)
 
-pub turns : {t lo t′ l ys : Bytes} {n k r : ℕ} (s rest : Bytes) → Called t s lo t′ l n k → length lo ≡ 10_240 → length l ≡ 10_240
+pub turns : {t lo t′ l ys : Bytes} {n k r : ℕ} (s rest : Bytes) → All IsByte s → Called t s lo t′ l n k → length lo ≡ 10_240 → length l ≡ 10_240
     → Wrote (l ++ rest) k 5 (doneRecord n) ys r → Turns t s t′ ys r
-turns {t} {lo} {t′} {l} {ys} {n} {k} {r} s rest c g h w =
+turns {t} {lo} {t′} {l} {ys} {n} {k} {r} s rest i c g h w =
     let e : ruled t s lo ≡ rule.call s 10_240 (viewTable t) = ap (λ (i : ℕ). rule.call s i (viewTable t)) g in
     let m : k ≤ length l = subst (λ (i : ℕ). k ≤ i) (sym h) (turn-size s c h) in
     let a : take k (l ++ rest) ≡ ruledBytes t s lo = take-append-le k l rest m ∙ ap (λ (b : Bytes). take k b) (c .bytes) ∙ take-at (ruledBytes t s lo) (drop k lo) k (sym (c .size)) in
     record {
+      calls = record { lent = lo; last = l; number = n; written = k; bytes = i; size = g; called = c };
       within = omega (arith, w .room, w .end, ap length (w .is), length-splice (l ++ rest) k (doneRecord n) (subst (λ (i : ℕ). k + i ≤ length (l ++ rest)) (sym (w .size)) (w .room)));
       table = c .table ∙ ap (λ (d : Result). d .step .table) e;
       written =
@@ -68,23 +81,3 @@ turns {t} {lo} {t′} {l} {ys} {n} {k} {r} s rest c g h w =
           ∙ ap (λ (i : ℕ). outputs ((rule.call s 10_240 (viewTable t)) .step .outs) ++ doneRecord i) (c .number ∙ ap (λ (d : Result). d .number) e);
       left = c .left;
     }
-
--- turns in a row write what the rules write for the records
-pub data Run : Bytes → List Bytes → Bytes → Type 0 where
-  end : {t : Bytes} → Run t [] []
-  more : {t t′ o w : Bytes} {r : ℕ} {l : List Bytes} (s : Bytes) → Turns t s t′ o r → Run t′ l w → Run t (s ∷ l) (take r o ++ w)
-
-pub run-calls : {t w : Bytes} {l : List Bytes} → Run t l w → w ≡ calls l (viewTable t)
-unfolding calls
-run-calls end = refl
-run-calls (more {t} {w = w} {l = l} s a b) =
-    let d = rule.call s 10_240 (viewTable t) in
-    ap (λ (x : Bytes). x ++ w) (a .written)
-    ∙ ap (λ (x : Bytes). outputs (d .step .outs) ++ doneRecord (d .number) ++ x) (run-calls b ∙ ap (λ (x : Table). calls l x) (a .table))
-
--- ---- a loop over the records of a tape: the table stays one for calls, the buffers as long as they were
-pub record Going (t₀ b₀ o₀ t b o : Bytes) : Type 0 where
-  pub left : Left t
-  pub table : length t ≡ length t₀
-  pub buf : length b ≡ length b₀
-  pub out : length o ≡ length o₀

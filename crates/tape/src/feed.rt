@@ -1,128 +1,95 @@
 // A whole tape, record by record, of any length.
 use crate::turn::opening;
 use crate::turn::turn;
+use memory::read::get_be;
 ghost use mathlib.Core.Path.{_≡_};
-ghost use Prim.Native.Nat.{_≤_, _<_};
-ghost use lib.ListN.{length};
+ghost use mathlib.Core.Bool.{true};
+ghost use Prim.Native.Nat.{_≤_, min};
+ghost use lib.ListN.{length, take};
 ghost use Rattle.settle.specs.Contract.{Left};
+ghost use Rattle.tape.specs.Turn.{Opens, Turns};
+ghost use Rattle.tape.specs.Feed.{Into, Cut, Ran, Taped};
 
-fn least(a: usize, b: usize) -> usize
-    ensures { λ r. ⌜ r ≤ b ⌝ }
+fn least(a: u64, b: u64) -> usize
+    ensures { λ r. ⌜ r ≡ min a b ⌝ }
 {
-    if a < b { a } else { b }
+    if a < b {
+        return a as usize;
+    }
+    b as usize
 }
 
-// What is left of a once b is taken.
-fn less(a: u64, b: u64) -> u64
-    ensures { λ r. ⌜ (0 < a → 0 < b → r < a) ⌝ }
+// Reads into the bytes of a buffer from a place on up to another.
+fn read_part(buf: &mut [u8], from: usize, to: usize) -> usize
+    requires { ⌜ from ≤ to ⌝ }
+    requires { ⌜ to ≤ length (now buf) ⌝ }
+    ensures { λ r. ⌜ Into from to (now (buf .entry)) (now (buf .exit)) r ⌝ }
 {
-    if a <= b {
-        return 0;
-    }
-    a - b
-}
-
-// Reads into a part of the buffer, as far as there is one.
-fn read_part(buf: &mut [u8], from: usize, to: usize) -> usize {
-    if buf.len() < to {
-        return 0;
-    }
-    if to < from {
-        return 0;
-    }
     io::read_full(0, &mut buf[from..to])
 }
 
-fn number(high: u8, low: u8) -> usize {
-    high as usize * 256 + low as usize
-}
-
-// The length that a record's first two bytes say.
-fn length_of(buf: &[u8]) -> usize
-    ensures { λ r. ⌜ r ≤ 65535 ⌝ }
-{
-    if buf.len() < 2 {
-        return 0;
-    }
-    least(number(buf[0], buf[1]), 65535)
-}
-
-// The bytes of a tape that a record may still have, of those that its length says.
-fn within(n: usize, left: u64) -> usize
-    ensures { λ r. ⌜ r ≤ n ⌝ }
-{
-    if left < n as u64 {
-        return left as usize;
-    }
-    n
-}
-
 // The next record of a tape that has `left` bytes more: how many bytes it has, 0 at the tape's end, fewer than it should where the tape is cut.
-fn next_record(buf: &mut [u8], left: u64) -> usize {
-    let head = within(2, left);
+fn next_record(buf: &mut [u8], left: u64) -> usize
+    requires { ⌜ length (now buf) ≡ 65537 ⌝ }
+    ensures { λ r. ⌜ Cut left (now (buf .exit)) r ⌝ }
+{
+    let head = least(2, left);
     let got = read_part(buf, 0, head);
     if got < 2 {
         return got;
     }
-    let n = within(length_of(buf), less(left, 2));
-    let more = read_part(buf, 2, n + 2);
-    least(more, 65535) + 2
-}
-
-// Writes the first n bytes.
-fn print(out: &[u8], n: usize) {
-    if n <= out.len() {
-        io::write_all(1, &out[0..n]);
-    }
+    let end = least(get_be(buf, 0, 2) + 2, left);
+    2 + read_part(buf, 2, end)
 }
 
 // The record of n bytes that makes the table. `show`: its Done is written.
 fn first(table: &mut [u8], buf: &[u8], n: usize, out: &mut [u8], show: bool) -> u8
     requires { ⌜ length (now table) ≡ 45478 ⌝ }
+    requires { ⌜ n ≤ length (now buf) ⌝ }
     requires { ⌜ length (now out) ≡ 10245 ⌝ }
-    ensures { λ r. ⌜ (r ≡ 0 → Left (now (table .exit))) ⌝ }
+    ensures { λ r. ⌜ Opens (now (table .entry)) (take n (now (buf .entry))) (now (table .exit)) (now (out .exit)) r ⌝ }
 {
-    if buf.len() < n {
-        return 3;
-    }
-    let number = opening(table, &buf[0..n], out);
+    let number = opening(table, &buf[..n], out);
     if show {
-        print(out, 5);
+        io::write_all(1, &out[..5]);
     }
     number
 }
 
 // The call of n bytes. `show`: its outputs and its Done are written.
-fn next(table: &mut [u8], buf: &[u8], n: usize, out: &mut [u8], show: bool)
+fn next(table: &mut [u8], buf: &[u8], n: usize, out: &mut [u8], show: bool) -> usize
     requires { ⌜ Left (now table) ⌝ }
+    requires { ⌜ n ≤ length (now buf) ⌝ }
     requires { ⌜ length (now out) ≡ 10245 ⌝ }
-    ensures { λ r. ⌜ Left (now (table .exit)) ⌝ }
+    ensures { λ r. ⌜ Turns (now (table .entry)) (take n (now (buf .entry))) (now (table .exit)) (now (out .exit)) r ⌝ }
 {
-    if buf.len() < n {
-        return;
-    }
-    let end = turn(table, &buf[0..n], out);
+    let end = turn(table, &buf[..n], out);
     if show {
-        print(out, end);
+        io::write_all(1, &out[..end]);
     }
+    end
 }
 
 // What is left of a tape whose first record was refused is read and passed over.
-fn skip(buf: &mut [u8], size: u64) {
+fn skip(buf: &mut [u8], size: u64)
+    requires { ⌜ length (now buf) ≡ 65537 ⌝ }
+{
     let mut left = size;
     while left > 0 {
         let n = next_record(buf, left);
         if n == 0 {
             return;
         }
-        left = less(left, n as u64);
+        left -= n as u64;
     }
 }
 
 // The calls of a tape.
 fn run_calls(table: &mut [u8], buf: &mut [u8], out: &mut [u8], size: u64, show: bool)
     requires { ⌜ Left (now table) ⌝ }
+    requires { ⌜ length (now buf) ≡ 65537 ⌝ }
     requires { ⌜ length (now out) ≡ 10245 ⌝ }
+    ensures { λ _. ⌜ Ran (now (table .entry)) (now (table .exit)) ⌝ }
 {
     let mut left = size;
     while left > 0 {
@@ -131,21 +98,23 @@ fn run_calls(table: &mut [u8], buf: &mut [u8], out: &mut [u8], size: u64, show: 
             return;
         }
         next(table, buf, n, out, show);
-        left = less(left, n as u64);
+        left -= n as u64;
     }
 }
 
 // A tape of at most `size` bytes from standard input, by way of a buffer for one record and one for its outputs. Whether it made a table.
 pub fn run_tape(table: &mut [u8], buf: &mut [u8], out: &mut [u8], size: u64, show: bool) -> bool
     requires { ⌜ length (now table) ≡ 45478 ⌝ }
+    requires { ⌜ length (now buf) ≡ 65537 ⌝ }
     requires { ⌜ length (now out) ≡ 10245 ⌝ }
+    ensures { λ r. ⌜ (r ≡ true → Taped (now (table .entry)) (now (table .exit))) ⌝ }
 {
     let n = next_record(buf, size);
     if n == 0 {
         return false;
     }
     let number = first(table, buf, n, out, show);
-    let left = less(size, n as u64);
+    let left = size - n as u64;
     if number != 0 {
         skip(buf, left);
         return false;

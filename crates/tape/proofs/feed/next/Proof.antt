@@ -1,16 +1,22 @@
 -- `tape::feed::next` meets its contract.
+use mathlib.Core.Path.{sym}
+use denote.Ref.{now}
+use lib.Seq.{length-take-le}
 use borrow.Author.Needs.{needs}
 use Rattle.tape.proofs.feed.next.Statement.{statement}
 use Rattle.tape.proofs.feed.next.Tie as tie
 
-returns : tie.Need-returns
-returns c = c .before .before .before .before .pre .0
-
-part-turn-end : tie.Need-part-turn-end
-part-turn-end c = c .before .if1 .left
+slice-aggregate-turn : tie.Need-slice-aggregate-turn
+slice-aggregate-turn c = sym (length-take-le (c .before .before .before .before .before .args .n) (now (c .before .before .before .before .before .args .buf)) (c .before .before .before .before .before .pre .1 .0))
 
 turn-requires : tie.Need-turn-requires
-turn-requires c κs = (c .before .before .before .before .before .before .before .pre .0, c .before .before .before .before .before .before .before .pre .1)
+turn-requires c κs = (c .before .before .before .before .before .before .pre .0, c .before .before .before .before .before .before .pre .1 .1)
+
+slice-reshare-prefix-write-all : tie.Need-slice-reshare-prefix-write-all
+slice-reshare-prefix-write-all c = c .before .before .before .before .before .turn .ensures .within
+
+slice-aggregate-write-all : tie.Need-slice-aggregate-write-all
+slice-aggregate-write-all c = sym (length-take-le (c .before .before .before .before .before .before .turn .result) (c .before .before .before .before .before .before .turn .last .1 .1 .0) (c .before .before .before .before .before .before .turn .ensures .within))
 
 same-length : tie.Need-same-length
 same-length c = c .before .before .before .before .before .before .before .turn .kept .0
@@ -18,8 +24,8 @@ same-length c = c .before .before .before .before .before .before .before .turn 
 same-length-2 : tie.Need-same-length-2
 same-length-2 c = c .before .before .before .before .before .before .before .turn .kept .1 .1 .0
 
-returns-2 : tie.Need-returns-2
-returns-2 c = c .before .before .before .before .before .before .before .turn .ensures .left
+returns : tie.Need-returns
+returns c = c .before .before .before .before .before .before .before .turn .ensures
 
 same-length-3 : tie.Need-same-length-3
 same-length-3 c = c .before .before .before .before .before .turn .kept .0
@@ -27,8 +33,8 @@ same-length-3 c = c .before .before .before .before .before .turn .kept .0
 same-length-4 : tie.Need-same-length-4
 same-length-4 c = c .before .before .before .before .before .turn .kept .1 .1 .0
 
-returns-3 : tie.Need-returns-3
-returns-3 c = c .before .before .before .before .before .turn .ensures .left
+returns-2 : tie.Need-returns-2
+returns-2 c = c .before .before .before .before .before .turn .ensures
 
 pub next-spec : {M : Type 1} → statement M
-next-spec = tie.close (tie.spec returns (λ c. search needs) (λ c. search needs) part-turn-end turn-requires (λ c κs. search needs) same-length same-length-2 returns-2 same-length-3 same-length-4 returns-3)
+next-spec = tie.close (tie.spec slice-aggregate-turn turn-requires slice-reshare-prefix-write-all slice-aggregate-write-all (λ c κs. search needs) same-length same-length-2 returns same-length-3 same-length-4 returns-2)

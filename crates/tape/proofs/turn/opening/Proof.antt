@@ -1,4 +1,6 @@
 -- `tape::turn::opening` meets its contract.
+use denote.Ref.{now}
+use Rattle.settle.specs.Meets.{all-bytes}
 use Rattle.tape.specs.Turn.{opens}
 use borrow.Author.Needs.{needs}
 use Rattle.tape.proofs.turn.opening.Statement.{statement}
@@ -14,7 +16,7 @@ same-length-2 : tie.Need-same-length-2
 same-length-2 c = c .before .before .put-done .kept .0
 
 returns : tie.Need-returns
-returns c = opens (c .before .before .before .before .before .before .new .ensures) (c .before .before .put-done .ensures)
+returns c = opens (all-bytes (now (c .before .before .before .before .before .before .before .before .before .before .before .args .input)) (c .before .before .before .before .before .before .before .before .before .shared-slice-known .given)) (c .before .before .before .before .before .before .new .ensures) (c .before .before .put-done .ensures)
 
 pub opening-spec : {M : Type 1} → statement M
 opening-spec = tie.close (tie.spec (λ c κs. search needs) put-done-requires same-length same-length-2 returns)
