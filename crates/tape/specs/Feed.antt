@@ -1,4 +1,4 @@
--- A tape from standard input. What standard input holds is in no contract, so it is said which records there were: those that the program cut.
+-- A tape from standard input. What standard input holds is in no contract: it is said that there were records, and which they are if it gives what it has (`Comes`).
 use mathlib.Core.Path.{_≡_, refl, sym, ap, _∙_, subst}
 use mathlib.Core.List.{List, [], _∷_, _++_, map, append-assoc, append-nil}
 use Prim.Native.Nat.{ℕ, _+_, _-_, _≤_, _<_, min}
@@ -30,6 +30,12 @@ pub record Cut (left : ℕ) (b : Bytes) (r : ℕ) : Type 0 where
   pub room : r ≤ length b
   pub tape : r ≤ left
   pub said : 2 ≤ r → r ≤ more 0 (take 2 b) + 2
+
+-- Standard input has the bytes s, and r of them came into the buffer b: fewer than there are only where the record's length says so.
+pub record Comes (s b : Bytes) (r : ℕ) : Type 0 where
+  pub same : take r b ≡ take r s
+  pub within : r ≤ length s
+  pub all : r < length s → (2 ≤ r) × (r ≡ more 0 (take 2 b) + 2)
 
 -- Turns in a row, from the table t to u: the records, and the bytes written.
 pub data Run : Bytes → List Bytes → Bytes → Bytes → Type 0 where
