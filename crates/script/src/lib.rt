@@ -4,8 +4,12 @@
 pub mod show;
 pub mod values;
 
+use std::num::wrapping_add_u64;
+ghost use mathlib.Core.Path.{_≡_};
 ghost use Prim.Native.Nat.{_+_, _≤_, _<_};
-ghost use lib.ListN.{length};
+ghost use lib.Dec.{ltb};
+ghost use lib.ListN.{length, drop};
+ghost use Rattle.script.specs.Step.{digit, withDigit, Runs, Reads, Fives, Steps, numberThere, argument, nextWord, wordStart};
 
 pub struct Step {
     pub word: u8,
@@ -31,19 +35,26 @@ struct Five {
     at: usize,
 }
 
-fn is_digit(b: u8) -> bool {
+fn is_digit(b: u8) -> bool
+    ensures { λ r. ⌜ r ≡ digit b ⌝ }
+{
     48 <= b && b <= 57
 }
 
 // A number with one more digit, the bits past 64 cut.
-fn with_digit(v: u64, b: u8) -> u64 {
-    let tens = std::num::wrapping_add_u64(v << 3, v << 1);
-    std::num::wrapping_add_u64(tens, (b % 16) as u64)
+fn with_digit(v: u64, b: u8) -> u64
+    ensures { λ r. ⌜ r ≡ withDigit v b ⌝ }
+{
+    let two = wrapping_add_u64(v, v);
+    let four = wrapping_add_u64(two, two);
+    let five = wrapping_add_u64(four, v);
+    let ten = wrapping_add_u64(five, five);
+    wrapping_add_u64(ten, (b % 16) as u64)
 }
 
 fn number_at(s: &[u8], at: usize) -> Number
     requires { ⌜ at ≤ length (now s) ⌝ }
-    ensures { λ r. ⌜ (at ≤ r .at) × (r .at ≤ length (now (s .entry))) ⌝ }
+    ensures { λ r. ⌜ Reads numberThere (now (s .entry)) at (r .value) (r .at) ⌝ }
 {
     let mut value = 0;
     let mut i = at;
@@ -60,7 +71,7 @@ fn number_at(s: &[u8], at: usize) -> Number
 // The number behind a space, 0 where there is none.
 fn argument(s: &[u8], at: usize) -> Number
     requires { ⌜ at ≤ length (now s) ⌝ }
-    ensures { λ r. ⌜ (at ≤ r .at) × (r .at ≤ length (now (s .entry))) ⌝ }
+    ensures { λ r. ⌜ Reads argument (now (s .entry)) at (r .value) (r .at) ⌝ }
 {
     if at < s.len() {
         if s[at] == b' ' {
@@ -72,7 +83,7 @@ fn argument(s: &[u8], at: usize) -> Number
 
 fn five_at(s: &[u8], at: usize) -> Five
     requires { ⌜ at ≤ length (now s) ⌝ }
-    ensures { λ r. ⌜ (at ≤ r .at) × (r .at ≤ length (now (s .entry))) ⌝ }
+    ensures { λ r. ⌜ Fives (now (s .entry)) at (r .a) (r .b) (r .c) (r .d) (r .e) (r .at) ⌝ }
 {
     let a = argument(s, at);
     let b = argument(s, a.at);
@@ -92,7 +103,7 @@ fn five_at(s: &[u8], at: usize) -> Five
 // The first byte from a place on that is at most `last`, or the end.
 fn until(s: &[u8], at: usize, last: u8) -> usize
     requires { ⌜ at ≤ length (now s) ⌝ }
-    ensures { λ r. ⌜ (at ≤ r) × (r ≤ length (now (s .entry))) ⌝ }
+    ensures { λ r. ⌜ Runs (ltb last) (now (s .entry)) at r ⌝ }
 {
     let mut i = at;
     while i < s.len() && last < s[i] {
@@ -104,6 +115,7 @@ fn until(s: &[u8], at: usize, last: u8) -> usize
 // The step of the line that begins at a place, which is written. The next line is at `at`.
 pub fn next_step(s: &[u8], at: usize) -> Step
     requires { ⌜ at < length (now s) ⌝ }
+    ensures { λ r. ⌜ Steps (now (s .entry)) at (r .word) (r .a) (r .b) (r .c) (r .d) (r .e) (r .at) ⌝ }
     ensures { λ r. ⌜ at < r .at ⌝ }
 {
     let word = s[at];
@@ -121,7 +133,10 @@ pub fn next_step(s: &[u8], at: usize) -> Step
     }
 }
 
-fn next_word(text: &[u8], at: usize) -> usize {
+// Where the next word begins, the end where there is none.
+fn next_word(text: &[u8], at: usize) -> usize
+    ensures { λ r. ⌜ r ≡ nextWord (now (text .entry)) at ⌝ }
+{
     if at < text.len() {
         until(text, at, b' ') + 1
     } else {
@@ -130,7 +145,9 @@ fn next_word(text: &[u8], at: usize) -> usize {
 }
 
 // Where the k-th word of a text begins.
-fn word_start(text: &[u8], k: usize) -> usize {
+fn word_start(text: &[u8], k: usize) -> usize
+    ensures { λ r. ⌜ r ≡ wordStart (now (text .entry)) k ⌝ }
+{
     let mut at = 0;
     let mut i = 0;
     while i < k {

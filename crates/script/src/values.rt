@@ -7,25 +7,35 @@ use node_addr::Pair;
 use node_addr::TransportId;
 use params::Params;
 ghost use mathlib.Core.Path.{_≡_};
-ghost use Rattle.node_addr.specs.View.{FitPair, FitMessage};
+ghost use mathlib.Core.List.{[], _∷_};
+ghost use Prim.Native.Nat.{_%_};
+ghost use lib.ListN.{replicate};
+ghost use Rattle.node_addr.specs.View.{viewPair, viewMessage, FitPair, FitMessage};
 ghost use Rattle.params.specs.View.{viewParams};
-ghost use Rattle.script.specs.Chosen.{chosen};
+ghost use Rattle.script.specs.Chosen.{chosen, pairOf};
 
-pub fn byte(v: u64) -> u8 {
+pub fn byte(v: u64) -> u8
+    ensures { λ r. ⌜ r ≡ v % 256 ⌝ }
+{
     (v % 256) as u8
 }
 
-pub fn node(v: u64) -> NodeAddr {
+pub fn node(v: u64) -> NodeAddr
+    ensures { λ r. ⌜ r .0 ≡ replicate 16 (v % 256) ⌝ }
+{
     NodeAddr([byte(v); 16])
 }
 
-pub fn digest(v: u64) -> Digest {
+pub fn digest(v: u64) -> Digest
+    ensures { λ r. ⌜ r .0 ≡ replicate 32 (v % 256) ⌝ }
+{
     Digest([byte(v); 32])
 }
 
 // An address of one byte.
 pub fn pair(transport: u64, v: u64) -> Pair
     ensures { λ r. ⌜ FitPair r ⌝ }
+    ensures { λ r. ⌜ viewPair r ≡ pairOf transport v ⌝ }
 {
     let mut bytes = [0u8; 48];
     bytes[0] = byte(v);
@@ -41,6 +51,7 @@ pub fn pair(transport: u64, v: u64) -> Pair
 // A message of one byte.
 pub fn message(v: u64) -> Message
     ensures { λ r. ⌜ FitMessage r ⌝ }
+    ensures { λ r. ⌜ viewMessage r ≡ (v % 256) ∷ [] ⌝ }
 {
     let mut bytes = [0u8; 128];
     bytes[0] = byte(v);

@@ -4,10 +4,10 @@ use Rattle.links_case.proofs.link_steps.at.Statement.{statement}
 use Rattle.links_case.proofs.link_steps.at.Tie as tie
 
 uses-at-requires : tie.Need-uses-at-requires
-uses-at-requires c κs = (search needs, (search needs, c .before .before .pair .ensures))
+uses-at-requires c κs = (search needs, (search needs, c .before .before .pair .ensures .0))
 
 indexed-at-requires : tie.Need-indexed-at-requires
-indexed-at-requires c κs = (search needs, (search needs, c .before .before .before .before .pair .ensures))
+indexed-at-requires c κs = (search needs, (search needs, c .before .before .before .before .pair .ensures .0))
 
 pub at-spec : {M : Type 1} → statement M
 at-spec = tie.close (tie.spec (λ c κs. search needs) (λ c κs. search needs) uses-at-requires (λ c κs. search needs) indexed-at-requires (λ c κs. search needs) (λ c. search needs) (λ c. search needs))
