@@ -2,7 +2,6 @@
 use mathlib.Core.Path.{sym, ap, _∙_}
 use mathlib.Core.Bool.{Bool, _&&_}
 use borrow.Author.Tests.{le-leb, lt-leb}
-use borrow.Author.Needs.{needs}
 use lib.Dec.{leb}
 use Rattle.script.proofs.is_digit.Statement.{statement}
 use Rattle.script.proofs.is_digit.Tie as tie

@@ -2,7 +2,6 @@
 use mathlib.Core.Path.{refl, _∙_}
 use native.Mathlib.Omega.{arith}
 use Rattle.tape.specs.Feed.{Going, none-ran, ran-turn}
-use borrow.Author.Needs.{needs}
 use Rattle.tape.proofs.feed.run_calls.Statement.{statement}
 use Rattle.tape.proofs.feed.run_calls.Tie as tie
 

@@ -2,7 +2,6 @@
 use mathlib.Core.Path.{sym, _∙_}
 use mathlib.Core.Bool.{true≢false}
 use Rattle.tape.specs.Feed.{taped}
-use borrow.Author.Needs.{needs}
 use Rattle.tape.proofs.feed.run_tape.Statement.{statement}
 use Rattle.tape.proofs.feed.run_tape.Tie as tie
 
