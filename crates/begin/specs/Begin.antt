@@ -1,6 +1,6 @@
 -- The record of new: what its reader answers.
-use mathlib.Core.Path.{_≡_, refl, sym, ap, _∙_}
-use mathlib.Core.Bool.{Bool, true, false, not, _&&_}
+use mathlib.Core.Path.{_≡_, refl, sym, _∙_}
+use mathlib.Core.Bool.{Bool, true, false, _&&_}
 use mathlib.Core.Option.{Option, none, some}
 use mathlib.Core.List.{List, [], _∷_}
 use Prim.Native.Nat.{ℕ, _≤_, _<_}
@@ -9,9 +9,9 @@ use lib.Dec.{eqb}
 use lib.ListN.{length, drop, getD}
 use Rattle.rules.specs.Base.{if_then_else_, option, Bytes}
 use Rattle.rules.specs.Time.{Params, default, outOfRange}
-use Rattle.rules.specs.Field.{Reader, give, fail, bind, number, code, clock, peer, link}
-use Rattle.rules.specs.Record.{Begin, settings, form, beginFields, begin, framed, finished, readNew}
-use Rattle.rules.specs.Entry.{Start, Made, Refused, newTable, new}
+use Rattle.rules.specs.Field.{Reader, give, fail, bind, number, clock, peer, link}
+use Rattle.rules.specs.Record.{Begin, settings, form, beginFields, begin, readNew}
+use Rattle.rules.specs.Entry.{Made, Refused, newTable, new}
 use Rattle.laws.specs.Follow.{Stepped, Follows, follows-start, follows-step}
 use Rattle.params.specs.View.{viewParams}
 use Rattle.fields.specs.Told.{below}

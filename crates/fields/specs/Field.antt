@@ -1,8 +1,8 @@
 -- Flags, pairs and messages, as they stand at the front of what is left of a record.
 use mathlib.Core.Path.{_≡_, refl, sym, ap, _∙_}
 use mathlib.Core.Bool.{Bool, true, false, not}
-use mathlib.Core.Option.{Option, none, some}
-use mathlib.Core.List.{List, [], _∷_, _++_}
+use mathlib.Core.Option.{none, some}
+use mathlib.Core.List.{[], _∷_, _++_}
 use Prim.Native.Nat.{ℕ, zero, suc, _+_, _*_, _-_, _≤_, _<_}
 use native.Mathlib.Omega.{arith}
 use borrow.Author.Tests.{leb-true, leb-false, not-true, not-false}
@@ -10,7 +10,7 @@ use lib.Dec.{eqb, leb}
 use lib.Seq.{drop-drop, length-take-le}
 use lib.ListN.{length, take, drop, getD, replicate, length-drop}
 use Rattle.rules.specs.Base.{if_then_else_, option, Bytes}
-use Rattle.rules.specs.Field.{bind, number, bytes, upTo, pair, message, flags, flag, more}
+use Rattle.rules.specs.Field.{bind, bytes, upTo, pair, message, flags, flag, more}
 use Rattle.laws.specs.Parse.{number-yes, number-no, upTo-yes, upTo-no, upTo-big, byte-is}
 use Rattle.laws.specs.Buffer.{kept-filled, shown-filled}
 use Rattle.rules.specs.Data.{Pair}
@@ -21,7 +21,7 @@ use Rattle.node_addr.specs.declared.Message as messages
 use Rattle.fields.specs.declared.ReadPair as readpair
 use Rattle.fields.specs.declared.ReadMessage as readmessage
 use Rattle.fields.specs.declared.Span as spans
-use Rattle.fields.specs.Told.{Told, told-some, told-yes, told-no, told-room, below, meant, code-is}
+use Rattle.fields.specs.Told.{Told, told-some, told-yes, told-room, below, meant, code-is}
 
 abbrev pub noPair : readpair.ReadPair
 noPair = record { ok = false; value = blankPair }

@@ -14,10 +14,10 @@ use node_addr::place::load_spelt;
 ghost use mathlib.Core.Path.{_≡_};
 ghost use mathlib.Core.Bool.{false};
 ghost use mathlib.Core.List.{[]};
-ghost use Prim.Native.Nat.{_+_, _≤_, _<_, _^_};
+ghost use Prim.Native.Nat.{_+_, _≤_, _<_};
 ghost use lib.ListN.{length, take, drop, replicate};
 ghost use Rattle.rules.specs.Field.{more, number, peer, lease, digest, flag, pair, message};
-ghost use Rattle.node_addr.specs.View.{viewPair, viewMessage, FitPair, FitMessage, blankPair, blankMessage};
+ghost use Rattle.node_addr.specs.View.{viewPair, viewMessage, FitPair, FitMessage, blankPair};
 ghost use Rattle.fields.specs.Told.{Told, below};
 ghost use Rattle.fields.specs.Field.{noPair, noMessage, Spelt, spanOf, FitSpan};
 

@@ -8,7 +8,7 @@ use native.Mathlib.Omega.{arith}
 use borrow.Author.Tests.{eqb-true, eqb-false, eq-eqb, ne-eqb, ltb-true, le-ltb}
 use lib.Dec.{eqb, ltb}
 use lib.ListN.{length, getD, set}
-use Rattle.rules.specs.Base.{if_then_else_, option, is, empty, Bytes, All, same, without}
+use Rattle.rules.specs.Base.{if_then_else_, option, is, empty, Bytes, All, without}
 use Rattle.rules.specs.Std.{before, Ascending}
 use Rattle.rules.specs.Std as std
 use Rattle.rules.specs.Data.{Replay, Silence, Memory}

@@ -8,7 +8,7 @@ use native.Mathlib.Omega.{arith}
 use borrow.Author.Tests.{eqb-false}
 use lib.Dec.{eqb}
 use lib.ListN.{length, replicate}
-use Rattle.rules.specs.Base.{if_then_else_, option, Bytes, same, without, any, All}
+use Rattle.rules.specs.Base.{option, Bytes, same, without, any, All}
 use Rattle.rules.specs.Std.{Ascending}
 use Rattle.rules.specs.Time.{Params}
 use Rattle.rules.specs.Data.{Memory, Silence}

@@ -1,12 +1,12 @@
 -- The frame of a record: length (of what follows), version 1, kind; and what the whole record says, by its fields.
-use mathlib.Core.Path.{_≡_, refl, sym, ap, _∙_}
+use mathlib.Core.Path.{_≡_, refl, ap, _∙_}
 use mathlib.Core.Bool.{Bool, true, false, not, _&&_}
 use mathlib.Core.Option.{Option, none, some}
-use mathlib.Core.List.{List, [], _∷_}
+use mathlib.Core.List.{[], _∷_}
 use Prim.Native.Nat.{ℕ, _+_, _≤_, _<_}
 use native.Mathlib.Omega.{arith}
 use borrow.Author.Tests.{leb-true, leb-false, eq-eqb, ne-eqb, not-true, not-false}
-use lib.Dec.{eqb, leb, lit≤}
+use lib.Dec.{eqb, leb}
 use lib.Seq.{drop-drop}
 use lib.ListN.{length, take, drop, getD, length-drop}
 use Rattle.rules.specs.Base.{if_then_else_, option, Bytes}
@@ -14,7 +14,7 @@ use Rattle.rules.specs.Data.{Call}
 use Rattle.rules.specs.Field.{Reader, give, fail, bind, number, clock, more}
 use Rattle.rules.specs.Record.{Timed, timed, finished, framed, readCall}
 use Rattle.laws.specs.Parse.{number-yes, number-no, byte-is}
-use Rattle.laws.specs.Follow.{Stepped, Follows, follows-start, follows-step}
+use Rattle.laws.specs.Follow.{Stepped, follows-start, follows-step}
 use Rattle.calls.specs.Read.{kindFields}
 
 -- the kind, where length and version are right

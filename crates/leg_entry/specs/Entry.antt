@@ -25,7 +25,7 @@ use Rattle.node_addr.specs.Alike.{part-of}
 use Rattle.node_addr.specs.Place.{messageOf, MessageCell, messageCell, message-parts}
 use Rattle.node_addr.specs.declared.Message as message
 use Rattle.leg_entry.specs.declared.leg.Leg as leg
-use Rattle.leg_entry.specs.View.{legWs, cell, legFrom, legOf, BlankCells, FitCells, FitLegCell, FitLegs, legCount, noLeg, legAt, viewLeg, BlankLeg, FitLeg}
+use Rattle.leg_entry.specs.View.{legWs, legFrom, legOf, BlankCells, FitCells, FitLegCell, FitLegs, legCount, noLeg, legAt, viewLeg, BlankLeg, FitLeg}
 
 -- ---- what is written
 abbrev pub legFields : leg.Leg → List Bytes

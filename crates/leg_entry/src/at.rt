@@ -10,11 +10,10 @@ use node_addr::place::load_digest;
 use node_addr::place::load_node;
 ghost use mathlib.Core.Path.{_≡_};
 ghost use mathlib.Core.Bool.{true, false};
-ghost use mathlib.Core.Option.{none};
 ghost use Prim.Native.Nat.{_+_, _*_, _≤_, _<_};
 ghost use lib.ListN.{length, take, drop};
 ghost use Rattle.rules.specs.Base.{is};
-ghost use Rattle.rules.specs.Legs.{answered, answers, storedMsg2};
+ghost use Rattle.rules.specs.Legs.{answers, storedMsg2};
 ghost use Rattle.leg_entry.specs.View.{FitLegs, legCount, legAt};
 ghost use Rattle.leg_entry.specs.At.{namedPeer, nextResend, answerOf, Stands};
 

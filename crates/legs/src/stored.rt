@@ -11,7 +11,7 @@ use node_addr::Found;
 use node_addr::LinkNo;
 use node_addr::place::pair_stands;
 ghost use mathlib.Core.Path.{_≡_};
-ghost use mathlib.Core.Bool.{true, false};
+ghost use mathlib.Core.Bool.{false};
 ghost use mathlib.Core.List.{[]};
 ghost use Prim.Native.Nat.{_+_, _≤_, _<_};
 ghost use lib.ListN.{length, take, drop, getD};

@@ -11,10 +11,10 @@ use lib.Seq.{take-at, drop-at}
 use lib.ListN.{length, take, drop, getD, set}
 use mir.Syntax.{w32}
 use mir.Val.{Fits}
-use Rattle.rules.specs.Base.{Bytes, any, one}
+use Rattle.rules.specs.Base.{Bytes, any}
 use Rattle.rules.specs.Data.{Pair, Proven, Live, Acked, Probing, PathRec, LinkRec}
 use Rattle.rules.specs.Field.{stateCode}
-use Rattle.rules.specs.Links.{numbered, pathAt, setPath, path}
+use Rattle.rules.specs.Links.{numbered, pathAt, setPath}
 use Rattle.laws.specs.Scan.{scan}
 use Rattle.laws.specs.Place.{any-at, any-nowhere, alter-at, find-at, find-nowhere}
 use Rattle.laws.specs.Splice.{splice, Wrote}

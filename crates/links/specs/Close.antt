@@ -10,7 +10,7 @@ use lib.Dec.{lit≤}
 use lib.ListN.{length, take, drop, getD, replicate, drop-of-length-le}
 use Rattle.rules.specs.Base.{if_then_else_, any, keep}
 use Rattle.rules.specs.Data.{Pair, samePair, PathRec, LinkRec}
-use Rattle.rules.specs.Links.{numbered, inUse, once, addresses, retired, retiring, released, releasing}
+use Rattle.rules.specs.Links.{numbered, inUse, once, addresses, retiring, released, releasing}
 use Rattle.laws.specs.Shift.{Kept, erase, all-replicate}
 use Rattle.laws.specs.Scan.{scan, shows-cons, length-shows}
 use Rattle.laws.specs.Place.{find-at, find-nowhere, any-at, any-nowhere, without-at}

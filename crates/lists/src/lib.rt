@@ -5,7 +5,6 @@ use node_addr::LinkNo;
 use node_addr::Pair;
 use parts::put_frame;
 use parts::put_pair;
-ghost use mathlib.Core.Path.{_≡_};
 ghost use mathlib.Core.List.{[], _∷_};
 ghost use Prim.Native.Nat.{_+_, _≤_, _<_};
 ghost use lib.ListN.{length};

@@ -4,7 +4,6 @@ use mathlib.Core.Bool.{true}
 use mathlib.Core.Option.{none}
 use mathlib.Core.List.{List, [], _∷_}
 use Prim.Native.Nat.{ℕ, _+_, _≤_}
-use native.Mathlib.Omega.{arith}
 use lib.ListN.{length}
 use Rattle.rules.specs.Base.{Bytes, alter}
 use Rattle.rules.specs.Data.{Pair, APeer, LinkRec, Leg, Held, Table, Transition, Move, Fresh, FromCarry, Installed, Output, Install, Reset, Retire}

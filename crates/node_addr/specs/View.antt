@@ -3,7 +3,7 @@ use mathlib.Core.Path.{_≡_, refl, sym, _∙_}
 use mathlib.Core.Option.{Option, none, some}
 use Prim.Native.Nat.{ℕ}
 use lib.Dec.{lit≤}
-use lib.ListN.{length, take, replicate}
+use lib.ListN.{take, replicate}
 use Rattle.rules.specs.Base.{Bytes}
 use Rattle.rules.specs.Data.{Pair}
 use Rattle.laws.specs.Shift.{Kept}

@@ -19,7 +19,6 @@ use parts::put_flag;
 use parts::put_frame;
 use parts::put_message;
 use parts::put_pair;
-ghost use mathlib.Core.Path.{_≡_};
 ghost use mathlib.Core.Option.{none, some};
 ghost use Prim.Native.Nat.{_+_, _≤_};
 ghost use lib.ListN.{length, take, drop};

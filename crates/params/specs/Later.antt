@@ -1,6 +1,6 @@
 -- The time arithmetic of the code against the rules: the shift, the product that is cut, the step that is halved.
 use mathlib.Core.Path.{_≡_, refl, sym, ap, _∙_}
-use mathlib.Core.Bool.{Bool, true, false, not, _||_}
+use mathlib.Core.Bool.{Bool, true, false}
 use Prim.Native.Nat.{ℕ, zero, suc, _+_, _-_, _*_, _/_, _%_, _^_, _≤_, _<_, min}
 use native.Mathlib.Nat.{le-div-iff-mul-le, div-lt-iff-lt-mul, one-mul, pow-suc}
 use native.Mathlib.Omega.{arith}

@@ -1,9 +1,9 @@
 -- What the settings show, and which are within range.
-use mathlib.Core.Path.{_≡_, refl, sym, ap, _∙_}
+use mathlib.Core.Path.{_≡_, refl, sym}
 use mathlib.Core.Bool.{Bool, true, false, not, _||_}
 use Prim.Native.Nat.{ℕ, _≤_, _<_}
 use native.Mathlib.Omega.{arith}
-use borrow.Author.Tests.{eq-eqb, ne-eqb, lt-ltb, le-ltb, lt-leb, le-leb, leb-true, leb-false, eqb-false, ltb-false}
+use borrow.Author.Tests.{eq-eqb, ne-eqb, lt-ltb, le-ltb, leb-true, leb-false, eqb-false, ltb-false}
 use lib.Dec.{leb, eqb, ltb}
 use Rattle.rules.specs.Time.{Params, outOfRange}
 use Rattle.params.specs.declared.Params as params

@@ -5,7 +5,6 @@ use memory::write::put_be;
 use memory::write::put_byte;
 use memory::write::put_run;
 use node_addr::Pair;
-ghost use mathlib.Core.Path.{_≡_};
 ghost use Prim.Native.Nat.{_+_, _≤_, _<_};
 ghost use lib.ListN.{length, take, drop};
 ghost use Rattle.rules.specs.Field.{flagBytes, pairBytes, messageBytes};

@@ -19,7 +19,7 @@ ghost use mathlib.Core.Path.{_≡_};
 ghost use mathlib.Core.Bool.{true, _&&_};
 ghost use Prim.Native.Nat.{_+_, _≤_, _<_};
 ghost use lib.Dec.{eqb};
-ghost use lib.ListN.{length, take, drop};
+ghost use lib.ListN.{length, drop};
 ghost use Rattle.rules.specs.Field.{number, peer, lease, digest, flag, pair, message};
 ghost use Rattle.laws.specs.Follow.{Stepped};
 ghost use Rattle.node_addr.specs.View.{viewPair, viewMessage, FitPair, FitMessage};

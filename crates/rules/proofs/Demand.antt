@@ -11,7 +11,7 @@ use Rattle.rules.specs.Data.{Table, Step}
 use Rattle.rules.specs.Settle.{_▸_}
 use Rattle.rules.specs.Record.{Begin, readNew}
 use Rattle.rules.specs.Entry.{Start, Made, Refused, newTable, new}
-use Rattle.rules.specs.Claim.{Fed, play, answer, accepted, holding, gives, given, UnusedAfter, Account, Claim}
+use Rattle.rules.specs.Claim.{Fed, play, answer, accepted, holding, gives, given, UnusedAfter, Claim}
 use Rattle.rules.proofs.Lists.{if-by, option-by, tally-append}
 use Rattle.rules.proofs.Good.{Good}
 use Rattle.rules.proofs.Calls.{fair-call}

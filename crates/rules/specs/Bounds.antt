@@ -1,15 +1,14 @@
 -- What holds of every table that new or a call left: the limits of document 01, and each number within its width.
 use mathlib.Core.Path.{_≡_}
-use mathlib.Core.Bool.{Bool, true, false, _&&_}
+use mathlib.Core.Bool.{Bool, true, _&&_}
 use mathlib.Core.Option.{Option, none, some}
-use mathlib.Core.List.{List, [], _∷_}
 use Prim.Native.Nat.{ℕ, _+_, _^_, _≤_, _<_}
 use lib.Dec.{ltb}
 use lib.ListN.{length}
 use Rattle.rules.specs.Base.{Bytes, All, tally, one}
 use Rattle.rules.specs.Std.{Ascending}
 use Rattle.rules.specs.Time.{Params}
-use Rattle.rules.specs.Data.{Pair, Holder, ALeg, APeer, PathRec, LinkRec, Answered, Kind, Leg, Replay, Silence, Memory, Held, Table}
+use Rattle.rules.specs.Data.{Pair, Holder, ALeg, APeer, LinkRec, Answered, Kind, Leg, Replay, Silence, Memory, Held, Table}
 use Rattle.rules.specs.Links.{numbered, isLeg}
 use Rattle.rules.specs.Gates.{remembers, earlierMemory}
 use Rattle.rules.specs.Settle.{places, earlierHeld}

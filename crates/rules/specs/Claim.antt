@@ -1,17 +1,17 @@
 -- Demand 3: a lease is never lost and never doubled, each live link has one owner, and nothing in use is closed.
 -- What that says of a list of calls, each a record with the length of the buffer lent with it.
 use mathlib.Core.Path.{_≡_}
-use mathlib.Core.Bool.{Bool, true, false}
+use mathlib.Core.Bool.{false}
 use mathlib.Core.Option.{Option, none, some}
 use mathlib.Core.List.{List, [], _∷_}
 use Prim.Native.Nat.{ℕ, _+_, _≤_}
 use lib.Dec.{eqb}
 use Rattle.rules.specs.Base.{if_then_else_, option, Bytes, tally, one, All}
-use Rattle.rules.specs.Data.{Pair, LinkRec, Leg, Held, Table, Call, Output, Step, Result, Opened, Resend, Rekey, Install, Reset, Retire, Free, Retry, Reject}
+use Rattle.rules.specs.Data.{Pair, LinkRec, Table, Call, Output, Step, Result, Opened, Resend, Rekey, Install, Reset, Retire, Free, Retry, Reject}
 use Rattle.rules.specs.Links.{numbered, inUse}
 use Rattle.rules.specs.Legs.{onLink}
 use Rattle.rules.specs.Settle.{still, _▸_}
-use Rattle.rules.specs.Record.{Timed, readCall}
+use Rattle.rules.specs.Record.{readCall}
 use Rattle.rules.specs.Entry.{Made, new, call}
 
 pub record Fed : Type 0 where

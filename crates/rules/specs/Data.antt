@@ -1,6 +1,6 @@
 -- The table's shapes, named as in the Rust: pairs, link records, legs, held peers, the gates' memories, calls and outputs.
-use mathlib.Core.Bool.{Bool, true, false, _&&_}
-use mathlib.Core.Option.{Option, none, some}
+use mathlib.Core.Bool.{Bool, _&&_}
+use mathlib.Core.Option.{Option}
 use mathlib.Core.List.{List}
 use Prim.Native.Nat.{ℕ}
 use lib.Dec.{eqb}

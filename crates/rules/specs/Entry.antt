@@ -1,6 +1,5 @@
 -- The two entries, from bytes and the lent buffer's length.
-use mathlib.Core.Option.{Option, none, some}
-use mathlib.Core.List.{List, [], _∷_}
+use mathlib.Core.List.{[]}
 use Prim.Native.Nat.{ℕ}
 use lib.Dec.{ltb}
 use Rattle.rules.specs.Base.{if_then_else_, option, Bytes}

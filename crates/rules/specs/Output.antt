@@ -1,5 +1,4 @@
 -- The bytes of the outputs 1 to 14, and of Done.
-use mathlib.Core.Bool.{Bool, true, false}
 use mathlib.Core.Option.{Option, none, some}
 use mathlib.Core.List.{List, [], _∷_, _++_}
 use Prim.Native.Nat.{ℕ}

@@ -1,6 +1,4 @@
 -- The program settle-tape: records in, outputs and Done out.
-use mathlib.Core.Bool.{Bool, true, false}
-use mathlib.Core.Option.{Option, none, some}
 use mathlib.Core.List.{List, [], _∷_, _++_}
 use Prim.Native.Nat.{ℕ, zero, suc, _+_}
 use lib.Dec.{leb}
@@ -9,7 +7,7 @@ use Rattle.rules.specs.Base.{if_then_else_, option, Bytes}
 use Rattle.rules.specs.Data.{Table}
 use Rattle.rules.specs.Field.{number}
 use Rattle.rules.specs.Output.{outputs, doneRecord}
-use Rattle.rules.specs.Entry.{Start, Made, Refused, new, call}
+use Rattle.rules.specs.Entry.{Made, Refused, new, call}
 
 -- The bytes of the first record with its length, and of a cut one as many as there are (its length is then wrong: 3).
 unfoldable pub extent : Bytes → ℕ

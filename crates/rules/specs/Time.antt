@@ -1,6 +1,5 @@
 -- The settings and the two pieces of time arithmetic (params.rs).
-use mathlib.Core.Bool.{Bool, true, false, _||_}
-use mathlib.Core.Option.{Option, none, some}
+use mathlib.Core.Bool.{Bool, _||_}
 use Prim.Native.Nat.{ℕ, zero, suc, _*_}
 use lib.Dec.{eqb, ltb}
 use Rattle.rules.specs.Base.{if_then_else_, option}

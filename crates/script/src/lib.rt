@@ -8,7 +8,7 @@ use std::num::wrapping_add_u64;
 ghost use mathlib.Core.Path.{_≡_};
 ghost use Prim.Native.Nat.{_+_, _≤_, _<_};
 ghost use lib.Dec.{ltb};
-ghost use lib.ListN.{length, drop};
+ghost use lib.ListN.{length};
 ghost use Rattle.script.specs.Step.{digit, withDigit, Runs, Reads, Fives, Steps, numberThere, argument, nextWord, wordStart};
 
 pub struct Step {

@@ -1,5 +1,5 @@
 -- Table, record and buffer length determine the answer: two that meet the contract are the same.
-use mathlib.Core.Path.{_≡_, refl, sym, ap, _∙_}
+use mathlib.Core.Path.{_≡_, sym, ap, _∙_}
 use Prim.Native.Nat.{ℕ}
 use lib.Seq.{take-at}
 use lib.ListN.{length, take, drop}

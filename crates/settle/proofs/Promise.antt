@@ -1,20 +1,20 @@
 -- The program keeps its promise: by the contracts of new and call each chain is a run of the definitions, of which demand 3 is proved.
 use mathlib.Core.Path.{_≡_, refl, sym, ap, _∙_, subst}
-use mathlib.Core.List.{List, [], _∷_, _++_}
+use mathlib.Core.List.{List, _++_}
 use Prim.Native.Nat.{ℕ, _+_}
 use lib.Seq.{take-at}
-use lib.ListN.{length, take, drop}
+use lib.ListN.{take, drop}
 use Rattle.rules.specs.Base.{Bytes}
-use Rattle.rules.specs.Data.{Table, Output, Step}
+use Rattle.rules.specs.Data.{Table, Output}
 use Rattle.rules.specs.Output.{outputs}
 use Rattle.rules.specs.Settle.{_▸_}
 use Rattle.rules.specs.Entry as rule
-use Rattle.rules.specs.Claim.{Fed, play, accepted, holding, given, UnusedAfter, Owned, Account}
+use Rattle.rules.specs.Claim.{Fed, play, holding, given, Owned, Account}
 use Rattle.rules.proofs.Demand.{demand}
 use Rattle.output.specs.Write.{outputs-append}
 use Rattle.state.specs.View.{viewTable}
-use Rattle.settle.specs.Contract.{Begun, Called, ruled, ruledBytes}
-use Rattle.settle.specs.Promise.{Chain, end, call, Promised, Promise}
+use Rattle.settle.specs.Contract.{Called, ruled, ruledBytes}
+use Rattle.settle.specs.Promise.{Chain, end, call, Promise}
 
 -- what a chain did is what the definitions play
 pub record Plays (t : Bytes) (l : List Fed) (u w : Bytes) : Type 0 where

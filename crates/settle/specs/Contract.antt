@@ -1,11 +1,11 @@
 -- What new and call promise, whatever the record, the buffer and the clock.
 use mathlib.Core.Path.{_≡_}
-use mathlib.Core.List.{List, _++_}
+use mathlib.Core.List.{_++_}
 use Prim.Native.Nat.{ℕ}
 use lib.Dec.{eqb}
 use lib.ListN.{length, drop}
 use Rattle.rules.specs.Base.{if_then_else_, Bytes}
-use Rattle.rules.specs.Data.{Table, Output, Result}
+use Rattle.rules.specs.Data.{Result}
 use Rattle.rules.specs.Output.{outputs}
 use Rattle.rules.specs.Entry.{Made, Refused}
 use Rattle.rules.specs.Entry as rule

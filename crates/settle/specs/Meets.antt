@@ -2,22 +2,20 @@
 use mathlib.Core.Path.{_≡_, refl, sym, ap, _∙_, subst}
 use mathlib.Core.Bool.{Bool, true, false, not}
 use mathlib.Core.Option.{Option, none, some}
-use mathlib.Core.List.{List, [], _∷_, _++_}
+use mathlib.Core.List.{[], _∷_, _++_}
 use Prim.Native.Nat.{ℕ, suc, _+_, _≤_, _<_}
 use native.Mathlib.Nat.{zero-add}
 use native.Mathlib.Omega.{arith}
 use borrow.Author.Tests.{lt-ltb, le-ltb, ne-eqb, not-true, not-false}
-use lib.Dec.{eqb, ltb}
-use lib.ListN.{length, take, drop, getD}
+use lib.ListN.{length, drop, getD}
 use mir.Syntax.{w8}
 use mir.Val.{Fits}
 use Rattle.rules.specs.Base.{if_then_else_, option, Bytes, All}
-use Rattle.rules.specs.Data.{Call, Table, Output, Result}
-use Rattle.rules.specs.Output.{outputs}
+use Rattle.rules.specs.Data.{Call}
 use Rattle.rules.specs.Time.{outOfRange}
 use Rattle.rules.specs.Settle.{refuse, step}
 use Rattle.rules.specs.Record.{Timed, finished, readCall, readNew}
-use Rattle.rules.specs.Entry.{Start, Made, Refused, newTable}
+use Rattle.rules.specs.Entry.{Made, newTable}
 use Rattle.rules.specs.Entry as rule
 use Rattle.rules.specs.Bounds.{IsByte, Bounds}
 use Rattle.rules.proofs.Bounds.{bounds-new, bounds-call}
@@ -26,9 +24,8 @@ use Rattle.laws.specs.Splice.{splice}
 use Rattle.params.specs.View.{viewParams}
 use Rattle.begin.specs.Begin.{News, beginOf, news-start}
 use Rattle.begin.specs.declared.ReadNew as readnew
-use Rattle.output.specs.Write.{Puts}
-use Rattle.state.specs.View.{viewTable, FitTable, Told}
-use Rattle.steps.specs.Did.{Space, Did, Ruled, ruled-refused, ruled-is, space-result}
+use Rattle.state.specs.View.{viewTable, Told}
+use Rattle.steps.specs.Did.{Space, Ruled, ruled-refused, ruled-is, space-result}
 use Rattle.steps.specs.Sound.{Ready, sound-bounds}
 use Rattle.calls.specs.Read.{kindFields}
 use Rattle.input.specs.Frame.{Opens}

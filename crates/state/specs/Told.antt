@@ -4,8 +4,8 @@ use mathlib.Core.List.{List, [], _∷_, _++_}
 use Prim.Native.Nat.{ℕ, _+_, _*_, _^_, _≤_, _<_}
 use native.Mathlib.Omega.{arith}
 use lib.Dec.{lit≤}
-use lib.Seq.{drop-drop, length-take-le, take-take}
-use lib.ListN.{length, take, drop, getD, length-drop}
+use lib.Seq.{drop-drop, length-take-le}
+use lib.ListN.{length, take, drop, length-drop}
 use mir.Syntax.{w64}
 use mir.Val.{Fits}
 use Rattle.rules.specs.Base.{Bytes}

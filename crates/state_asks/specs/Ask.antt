@@ -2,16 +2,16 @@
 use mathlib.Core.Path.{_≡_, refl, sym, ap, _∙_}
 use mathlib.Core.Bool.{Bool, true, false, _||_}
 use mathlib.Core.Option.{Option, none, some}
-use Prim.Native.Nat.{ℕ, _≤_, _<_}
+use Prim.Native.Nat.{ℕ, _<_}
 use lib.Dec.{leb}
 use lib.ListN.{length}
 use Rattle.rules.specs.Base.{Bytes, option, find, any}
-use Rattle.rules.specs.Data.{Pair, samePair, LinkRec, Leg, Held, Table}
+use Rattle.rules.specs.Data.{Pair, samePair, LinkRec, Held, Table}
 use Rattle.rules.specs.Links.{numbered, provenAt}
 use Rattle.rules.specs.Legs as rule
 use Rattle.rules.specs.Settle.{Stored, outbound, own, attributed, full}
 use Rattle.laws.specs.Scan.{scan}
-use Rattle.laws.specs.Place.{find-at, find-nowhere, place-within}
+use Rattle.laws.specs.Place.{find-at, find-nowhere}
 use Rattle.laws.specs.Store.{entries-count}
 use Rattle.node_addr.specs.declared.Found.{Found}
 use Rattle.node_addr.specs.declared.Found.the-variants as foundv

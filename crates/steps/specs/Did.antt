@@ -8,11 +8,11 @@ use Rattle.rules.specs.Base.{Bytes}
 use Rattle.rules.specs.Data.{Output, Table, Step, Result}
 use Rattle.rules.specs.Output.{outputRecord, outputs}
 use Rattle.rules.specs.Settle.{still, ok, refuse, _▸_}
-use Rattle.laws.specs.Splice.{Wrote, length-splice, splice-none}
+use Rattle.laws.specs.Splice.{Wrote, length-splice}
 use Rattle.output.specs.Size.{sizeOf, length-output}
 use Rattle.output.specs.Write.{Puts, puts-none, puts-one, puts-more, outputs-append}
 use Rattle.state.specs.View.{viewTable, FitTable, Told}
-use Rattle.state.specs.Told.{told-same, told-is, told-then}
+use Rattle.state.specs.Told.{told-same}
 
 -- ---- room in the buffer o from a place on for the outputs s
 

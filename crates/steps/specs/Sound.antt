@@ -1,20 +1,17 @@
 -- What holds of the table between the steps of a call, and the room that it gives.
-use mathlib.Core.Path.{_≡_, refl, sym, subst}
-use mathlib.Core.Bool.{true, false}
-use mathlib.Core.Option.{Option, none, some}
-use mathlib.Core.List.{List, []}
+use mathlib.Core.Path.{_≡_, sym, subst}
+use mathlib.Core.Option.{some}
 use Prim.Native.Nat.{ℕ, _+_, _≤_, _<_}
 use native.Mathlib.Omega.{arith}
 use lib.ListN.{length}
-use Rattle.rules.specs.Base.{Bytes, find, All}
+use Rattle.rules.specs.Base.{Bytes, All}
 use Rattle.rules.specs.Std.{Ascending}
-use Rattle.rules.specs.Data.{LinkRec, Leg, Held, Memory, Table, Call, Why}
-use Rattle.rules.specs.Links.{numbered}
+use Rattle.rules.specs.Data.{Leg, Held, Table, Call, Why}
 use Rattle.rules.specs.Legs.{onLink}
 use Rattle.rules.specs.Gates.{earlierMemory}
-use Rattle.rules.specs.Settle.{legAt, heldAt, named, ends, removed, stamp, closeLegs}
+use Rattle.rules.specs.Settle.{legAt, heldAt, ends, removed, stamp, closeLegs}
 use Rattle.rules.specs.Record.{Timed}
-use Rattle.rules.specs.Bounds.{Word, Widths, Ordered, Limits, Bounds}
+use Rattle.rules.specs.Bounds.{Word, Widths, Bounds}
 use Rattle.rules.proofs.Good.{Good}
 use Rattle.rules.proofs.Calls.{fine-ends, fine-removed, fine-closeLegs, good-stamp}
 use Rattle.rules.proofs.Order.{length-less, ordered-stamp}

@@ -1,22 +1,19 @@
 -- What is asked of the step of a kind, and what it answers: the record's fields are read, and the call that they say is settled.
-use mathlib.Core.Path.{_≡_, refl, sym, ap, _∙_, subst}
+use mathlib.Core.Path.{_≡_, refl, sym, ap, subst}
 use mathlib.Core.Bool.{Bool, true, false, not}
-use mathlib.Core.Option.{Option, none, some}
-use mathlib.Core.List.{List, []}
+use mathlib.Core.Option.{Option}
 use Prim.Native.Nat.{ℕ, _≤_}
 use native.Mathlib.Omega.{arith}
 use borrow.Author.Tests.{not-true, not-false}
 use lib.ListN.{length, drop}
-use Rattle.rules.specs.Base.{if_then_else_, option, Bytes}
-use Rattle.rules.specs.Data.{Call, Table, Output, Step, Result}
+use Rattle.rules.specs.Base.{option, Bytes}
+use Rattle.rules.specs.Data.{Call, Table, Result}
 use Rattle.rules.specs.Field.{Reader, fail}
-use Rattle.rules.specs.Record.{finished, kinds}
-use Rattle.rules.specs.Settle.{writes, ok, refuse, step}
+use Rattle.rules.specs.Record.{finished}
+use Rattle.rules.specs.Settle.{refuse, step}
 use Rattle.calls.specs.Read.{Reads, kindFields}
-use Rattle.output.specs.Write.{Puts, puts-none}
-use Rattle.state.specs.View.{viewTable, FitTable, Told}
-use Rattle.state.specs.Told.{told-same}
-use Rattle.steps.specs.Did.{Space, Did, Ruled, ruled-ok, ruled-is, ruled-refused, space-result}
+use Rattle.state.specs.View.{viewTable}
+use Rattle.steps.specs.Did.{Space, Ruled, ruled-is, ruled-refused, space-result}
 use Rattle.steps.specs.Sound.{Ready}
 
 -- 3, or the step of the call that the fields from `at` on say

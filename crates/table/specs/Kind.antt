@@ -1,12 +1,12 @@
 -- The codes that a record brings, kinds by what they are not, and steps that write nothing or change nothing.
 use mathlib.Core.Path.{_≡_, refl, sym, ap, _∙_, subst}
 use mathlib.Core.Bool.{Bool, true, false}
-use mathlib.Core.List.{List, [], _∷_}
-use Prim.Native.Nat.{ℕ, zero, suc, _≤_, _<_}
+use mathlib.Core.List.{List, []}
+use Prim.Native.Nat.{ℕ, suc, _≤_, _<_}
 use native.Mathlib.Omega.{arith}
 use lib.ListN.{getD}
 use Rattle.rules.specs.Base.{if_then_else_, Bytes}
-use Rattle.rules.specs.Data.{Pair, Proven, Live, Probing, Table, Why, Output, Step, Result}
+use Rattle.rules.specs.Data.{Pair, Proven, Live, Probing, Table, Why, Output, Step}
 use Rattle.rules.specs.Field.{fail, whys, whyCode, states}
 use Rattle.rules.specs.Links.{path}
 use Rattle.rules.specs.Record.{kinds}
@@ -15,7 +15,7 @@ use Rattle.calls.specs.Read.{kindFields, no-kind}
 use Rattle.output.specs.Write.{Puts, puts-none}
 use Rattle.state.specs.View.{viewTable, FitTable, Told}
 use Rattle.state.specs.Told.{told-same}
-use Rattle.steps.specs.Did.{Did, Ruled, ruled-ok}
+use Rattle.steps.specs.Did.{Ruled, ruled-ok}
 use Rattle.hearing.specs.Path.{Numbered}
 
 -- ---- codes

@@ -5,7 +5,7 @@ use settle::new;
 ghost use mathlib.Core.Path.{_≡_};
 ghost use Prim.Native.Nat.{_≤_};
 ghost use lib.ListN.{length};
-ghost use Rattle.settle.specs.Contract.{Left, Begun};
+ghost use Rattle.settle.specs.Contract.{Left};
 ghost use Rattle.tape.specs.Turn.{Opens, Turns};
 
 // The record that makes the table; its Done stands in the first 5 bytes of the buffer.

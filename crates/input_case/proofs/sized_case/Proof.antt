@@ -1,7 +1,7 @@
 -- The buffer is as long as the longest record.
 use mathlib.Core.Path.{sym, subst}
 use Prim.Native.Nat.{ℕ, _≤_}
-use lib.ListN.{length, replicate, length-replicate}
+use lib.ListN.{length-replicate}
 use Rattle.input_case.proofs.sized_case.Statement.{statement}
 use Rattle.input_case.proofs.sized_case.Tie as tie
 

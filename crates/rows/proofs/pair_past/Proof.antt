@@ -1,4 +1,4 @@
-use Rattle.rows.specs.Row.{stepping, past-no, past-in, past-room, past-yes}
+use Rattle.rows.specs.Row.{past-no, past-in, past-room, past-yes}
 use Rattle.fields.specs.Field.{never}
 use Rattle.rows.proofs.pair_past.Statement.{statement}
 use Rattle.rows.proofs.pair_past.Tie as tie

@@ -1,8 +1,6 @@
 use native.Mathlib.Omega.{arith}
 use lib.Dec.{lit≤}
 use Rattle.rows.specs.Row.{stepping, span-yes, span-room}
-use Rattle.laws.specs.Follow.{stepped-off}
-use Rattle.rows.specs.Row.{stepped-no}
 use Rattle.rows.proofs.span_at.Statement.{statement}
 use Rattle.rows.proofs.span_at.Tie as tie
 

@@ -1,5 +1,4 @@
 -- `settle::new` meets its contract.
-use mathlib.Core.Path.{sym, _∙_}
 use Rattle.settle.specs.Meets.{all-bytes, in-range, begun-made, begun-refused}
 use denote.Ref.{now}
 use borrow.Author.Needs.{needs}

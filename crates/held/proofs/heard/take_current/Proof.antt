@@ -1,5 +1,4 @@
 use Rattle.held.specs.Change.{current-kept, current-changed}
-use Rattle.node_addr.specs.Place.{pairHere}
 use mathlib.Core.Path.{sym, _∙_}
 use borrow.Author.Needs.{needs}
 use Rattle.held.proofs.heard.take_current.Statement.{statement}

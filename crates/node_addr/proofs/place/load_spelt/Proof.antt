@@ -1,6 +1,5 @@
 -- `node_addr::place::load_spelt` meets its contract.
 use Rattle.node_addr.specs.Place.{spelt-loaded}
-use native.Mathlib.Omega.{arith}
 use borrow.Author.Needs.{needs}
 use Rattle.node_addr.proofs.place.load_spelt.Statement.{statement}
 use Rattle.node_addr.proofs.place.load_spelt.Tie as tie

@@ -1,5 +1,4 @@
 -- `table::asks::arrived_call` meets its contract.
-use mathlib.Core.Path.{_∙_, sym}
 use Rattle.rules.specs.Settle.{step}
 use Rattle.steps.specs.Did.{puts-length, ruled-ok}
 use Rattle.table.specs.Ask.{unread, read-space, read-done}

@@ -1,8 +1,7 @@
 -- `table::paths::path_call` meets its contract.
 use mathlib.Core.Path.{_∙_, sym}
 use Rattle.rules.specs.Settle.{step}
-use Rattle.steps.specs.Did.{puts-length, ruled-ok}
-use Rattle.table.specs.Ask.{unread, read-space, read-done}
+use Rattle.table.specs.Ask.{unread, read-done}
 use borrow.Author.Needs.{needs}
 use Rattle.table.specs.Kind.{ruled-path}
 use Rattle.table.proofs.paths.path_call.Statement.{statement}
