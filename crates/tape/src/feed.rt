@@ -3,7 +3,7 @@ use crate::turn::opening;
 use crate::turn::turn;
 use memory::read::get_be;
 ghost use mathlib.Core.Path.{_≡_};
-ghost use mathlib.Core.Bool.{true};
+ghost use mathlib.Core.Bool.{true, false};
 ghost use Prim.Native.Nat.{_≤_, min};
 ghost use lib.ListN.{length, take};
 ghost use Rattle.settle.specs.Contract.{Left};
@@ -108,6 +108,7 @@ pub fn run_tape(table: &mut [u8], buf: &mut [u8], out: &mut [u8], size: u64, sho
     requires { ⌜ length (now buf) ≡ 65537 ⌝ }
     requires { ⌜ length (now out) ≡ 10245 ⌝ }
     ensures { λ r. ⌜ (r ≡ true → Taped (now (table .entry)) (now (table .exit))) ⌝ }
+    ensures { λ r. ⌜ (r ≡ false → now (table .exit) ≡ now (table .entry)) ⌝ }
 {
     let n = next_record(buf, size);
     if n == 0 {
