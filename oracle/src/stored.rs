@@ -1,4 +1,4 @@
-//! The stored tapes of crates/replay: each the count of its bytes in 4 bytes,
+//! The stored tapes of crates/tape_replay: each the count of its bytes in 4 bytes,
 //! big-endian, and then the bytes.
 
 use crate::cover;

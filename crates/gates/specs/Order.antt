@@ -15,11 +15,11 @@ use Rattle.rules.specs.Data.{Replay, Silence, Memory}
 use Rattle.rules.specs.Bounds.{IfAny, SilenceFits, MemoryFits}
 use Rattle.rules.specs.Gates.{blank, remembers, memoryOf, earlierMemory, memory, store, clear, promoted, ended}
 use Rattle.rules.specs.Time.{Params}
-use Rattle.laws.specs.Shift.{erase, insert, all-at}
-use Rattle.laws.specs.Scan.{scan}
-use Rattle.laws.specs.Beside.{same-true}
-use Rattle.laws.specs.Place.{First, here, there, first-of, place-passes, place-within, find-at, find-nowhere, without-at, without-nowhere, insert-at, insert-last, insert-end}
-use Rattle.memories.specs.View.{Within}
+use Rattle.lib_laws.specs.Shift.{erase, insert, all-at}
+use Rattle.lib_laws.specs.Scan.{scan}
+use Rattle.lib_laws.specs.Beside.{same-true}
+use Rattle.lib_laws.specs.Place.{First, here, there, first-of, place-passes, place-within, find-at, find-nowhere, without-at, without-nowhere, insert-at, insert-last, insert-end}
+use Rattle.gates_types.specs.View.{Within}
 use Rattle.gates.specs.Walk.{after, Takes}
 
 -- the order of peers has one direction

@@ -8,16 +8,16 @@ use mir.Val.{Fits}
 use Rattle.rules.specs.Base.{Bytes}
 use Rattle.rules.specs.Std as std
 use Rattle.rules.specs.Gates.{earlierMemory}
-use Rattle.laws.specs.Shift.{replaced}
-use Rattle.laws.specs.Scan.{scan}
-use Rattle.laws.specs.Splice.{splice, length-splice, Wrote}
-use Rattle.laws.specs.Part.{getD-past}
-use Rattle.laws.specs.Chunk.{chunks-whole}
-use Rattle.laws.specs.Store.{gapped, inserted-is}
-use Rattle.memories.specs.declared.Memory.{Memory}
-use Rattle.memories.specs.View.{viewMemory, FitMemory}
-use Rattle.memory_entry.specs.View.{entryOf, viewGates, FitGates, gateCount}
-use Rattle.memory_entry.specs.Entry.{memoryBytes, fit-memory, memory-shows}
+use Rattle.lib_laws.specs.Shift.{replaced}
+use Rattle.lib_laws.specs.Scan.{scan}
+use Rattle.lib_laws.specs.Splice.{splice, length-splice, Wrote}
+use Rattle.lib_laws.specs.Part.{getD-past}
+use Rattle.lib_laws.specs.Chunk.{chunks-whole}
+use Rattle.lib_laws.specs.Store.{gapped, inserted-is}
+use Rattle.gates_types.specs.declared.Memory.{Memory}
+use Rattle.gates_types.specs.View.{viewMemory, FitMemory}
+use Rattle.gates_entry.specs.View.{entryOf, viewGates, FitGates, gateCount}
+use Rattle.gates_entry.specs.Entry.{memoryBytes, fit-memory, memory-shows}
 use Rattle.gates.specs.Walk.{after, Takes, count-is}
 use Rattle.gates.specs.Order.{inserted-here}
 

@@ -10,13 +10,13 @@ use lib.ListN.{length, take, drop, replicate, getD-replicate}
 use Rattle.rules.specs.Base.{if_then_else_, Bytes, All}
 use Rattle.rules.specs.Bounds.{IsByte}
 use Rattle.rules.specs.Data.{Replay, Silence, Memory}
-use Rattle.laws.specs.Cell.{flagOf, flag-same, option-num-same}
-use Rattle.laws.specs.Chunk.{chunks}
-use Rattle.laws.specs.Fields.{sum}
-use Rattle.laws.specs.Store.{Store, entries, store-zeros, same-view}
-use Rattle.laws.specs.Same.{cell-size, cell-bytes, num-cells, cells-same, with-bytes}
-use Rattle.memory_entry.specs.Rows.{AnyBytes}
-use Rattle.memory_entry.specs.View.{replayOf, digestOf, silenceWs, silenceOf, FitSilenceCell, entryWs, entryOf, FitEntry, viewGates, FitGates, fit-zeros}
+use Rattle.lib_laws.specs.Cell.{flagOf, flag-same, option-num-same}
+use Rattle.lib_laws.specs.Chunk.{chunks}
+use Rattle.lib_laws.specs.Fields.{sum}
+use Rattle.lib_laws.specs.Store.{Store, entries, store-zeros, same-view}
+use Rattle.lib_laws.specs.Same.{cell-size, cell-bytes, num-cells, cells-same, with-bytes}
+use Rattle.gates_entry.specs.Rows.{AnyBytes}
+use Rattle.gates_entry.specs.View.{replayOf, digestOf, silenceWs, silenceOf, FitSilenceCell, entryWs, entryOf, FitEntry, viewGates, FitGates, fit-zeros}
 
 -- ---- new memory
 pub fit-new : FitGates (replicate 20289 0)

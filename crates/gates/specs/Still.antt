@@ -8,10 +8,10 @@ use native.Mathlib.Omega.{arith}
 use lib.ListN.{length, take, drop, getD}
 use Rattle.rules.specs.Base.{if_then_else_, Bytes, is, empty}
 use Rattle.rules.specs.Data.{Silence}
-use Rattle.laws.specs.Cell.{flagOf}
-use Rattle.laws.specs.Chunk.{chunks, length-chunks}
-use Rattle.memory_entry.specs.View.{replayOf, silenceOf, FitGates, gateCount, memoryAt}
-use Rattle.memory_entry.specs.Entry.{memory-here, row-count}
+use Rattle.lib_laws.specs.Cell.{flagOf}
+use Rattle.lib_laws.specs.Chunk.{chunks, length-chunks}
+use Rattle.gates_entry.specs.View.{replayOf, silenceOf, FitGates, gateCount, memoryAt}
+use Rattle.gates_entry.specs.Entry.{memory-here, row-count}
 use Rattle.gates.specs.Order.{still}
 
 none-shown : {A B : Type 0} (f : A → B) (n : ℕ) (xs : List A) → n ≡ 0 → empty (map f (take n xs)) ≡ true

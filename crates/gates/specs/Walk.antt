@@ -9,14 +9,14 @@ use lib.ListN.{length, getD, take, drop}
 use Rattle.rules.specs.Base.{Bytes, option}
 use Rattle.rules.specs.Std.{before}
 use Rattle.rules.specs.Data.{Memory}
-use Rattle.laws.specs.Shift.{shown}
-use Rattle.laws.specs.Scan.{scan, Ahead, scan-hit, scan-skip, scan-end}
-use Rattle.laws.specs.Chunk.{chunks}
-use Rattle.laws.specs.Store.{entries-count}
+use Rattle.lib_laws.specs.Shift.{shown}
+use Rattle.lib_laws.specs.Scan.{scan, Ahead, scan-hit, scan-skip, scan-end}
+use Rattle.lib_laws.specs.Chunk.{chunks}
+use Rattle.lib_laws.specs.Store.{entries-count}
 use Rattle.node_addr.specs.declared.Found.the-variants as foundv
 use Rattle.node_addr.specs.View.{Finds, finds-some, finds-no}
-use Rattle.memory_entry.specs.Entry.{peer-here}
-use Rattle.memory_entry.specs.View.{entryOf, viewGates, FitGates, gateCount, noMemory, memoryAt}
+use Rattle.gates_entry.specs.Entry.{peer-here}
+use Rattle.gates_entry.specs.View.{entryOf, viewGates, FitGates, gateCount, noMemory, memoryAt}
 
 pub count-is : {s : Bytes} → FitGates s → length (viewGates s) ≡ gateCount s
 count-is f = entries-count entryOf f

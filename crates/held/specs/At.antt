@@ -9,7 +9,7 @@ use Rattle.rules.specs.Base.{if_then_else_, is, Bytes, same}
 use Rattle.rules.specs.Std.{before}
 use Rattle.rules.specs.Data.{Pair, samePair, Held}
 use Rattle.rules.specs.Settle.{named}
-use Rattle.laws.specs.Cell.{num, flagOf, orBlank}
+use Rattle.lib_laws.specs.Cell.{num, flagOf, orBlank}
 use Rattle.node_addr.specs.Place.{pairOf, PairCell}
 use Rattle.held.specs.View.{FitHeld, heldCount, nthHeld, lastHeard, setupOf}
 use Rattle.held.specs.Entry.{num-zeros, fit-here, held-here}

@@ -15,12 +15,12 @@ use Rattle.rules.specs.Base.{one, Bytes, same}
 use Rattle.rules.specs.Field.{digits}
 use Rattle.rules.specs.Data.{Pair, samePair, Held}
 use Rattle.rules.specs.Settle.{withEpoch}
-use Rattle.laws.specs.Beside.{same-true}
-use Rattle.laws.specs.Splice.{splice, splice-splice, length-splice, length-digits, Wrote}
-use Rattle.laws.specs.Round.{more-digits}
-use Rattle.laws.specs.Cell.{flag-shows, flag-code}
-use Rattle.laws.specs.Fields.{cuts, cuts-set, sum}
-use Rattle.laws.specs.Store.{changed-is}
+use Rattle.lib_laws.specs.Beside.{same-true}
+use Rattle.lib_laws.specs.Splice.{splice, splice-splice, length-splice, length-digits, Wrote}
+use Rattle.lib_laws.specs.Round.{more-digits}
+use Rattle.lib_laws.specs.Cell.{flag-shows, flag-code}
+use Rattle.lib_laws.specs.Fields.{cuts, cuts-set, sum}
+use Rattle.lib_laws.specs.Store.{changed-is}
 use Rattle.node_addr.specs.View.{viewPair, FitPair}
 use Rattle.node_addr.specs.Place.{pairCell, pair-cell-length, pair-cell-fit, pair-cell-shows}
 use Rattle.node_addr.specs.declared.Pair as pair

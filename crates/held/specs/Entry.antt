@@ -12,12 +12,12 @@ use mir.Syntax.{w32, w64}
 use mir.Val.{Fits}
 use Rattle.rules.specs.Base.{one, Bytes}
 use Rattle.rules.specs.Field.{more, digits}
-use Rattle.laws.specs.Shift.{fit-at, shown}
-use Rattle.laws.specs.Splice.{length-digits, Wrote}
-use Rattle.laws.specs.Round.{more-digits}
-use Rattle.laws.specs.Cell.{num, flagOf, Optional, flag-shows, flag-code}
-use Rattle.laws.specs.Chunk.{chunks, joined}
-use Rattle.laws.specs.Fields.{cuts, cuts-at, cuts-joined, sum}
+use Rattle.lib_laws.specs.Shift.{fit-at, shown}
+use Rattle.lib_laws.specs.Splice.{length-digits, Wrote}
+use Rattle.lib_laws.specs.Round.{more-digits}
+use Rattle.lib_laws.specs.Cell.{num, flagOf, Optional, flag-shows, flag-code}
+use Rattle.lib_laws.specs.Chunk.{chunks, joined}
+use Rattle.lib_laws.specs.Fields.{cuts, cuts-at, cuts-joined, sum}
 use Rattle.node_addr.specs.View.{FitPair, viewPair}
 use Rattle.node_addr.specs.Place.{pairOf, pairCell, pair-cell-length, pair-cell-fit, pair-cell-shows}
 use Rattle.held.specs.declared.record.Held as held

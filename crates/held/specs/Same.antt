@@ -8,10 +8,10 @@ use lib.ListN.{length, replicate, getD-replicate}
 use Rattle.rules.specs.Base.{Bytes, All}
 use Rattle.rules.specs.Bounds.{IsByte}
 use Rattle.rules.specs.Data.{Held}
-use Rattle.laws.specs.Cell.{flag-same, option-num-same, option-bytes-same}
-use Rattle.laws.specs.Fields.{sum}
-use Rattle.laws.specs.Store.{store-zeros, same-view}
-use Rattle.laws.specs.Same.{cell-bytes, num-cells, cells-same, with-bytes}
+use Rattle.lib_laws.specs.Cell.{flag-same, option-num-same, option-bytes-same}
+use Rattle.lib_laws.specs.Fields.{sum}
+use Rattle.lib_laws.specs.Store.{store-zeros, same-view}
+use Rattle.lib_laws.specs.Same.{cell-bytes, num-cells, cells-same, with-bytes}
 use Rattle.node_addr.specs.Place.{pair-cell-same}
 use Rattle.held.specs.View.{heldWs, heldOf, FitHeldCell, viewHeld, FitHeld, heldCount, fit-zeros}
 

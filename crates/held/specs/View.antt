@@ -8,9 +8,9 @@ use lib.Dec.{lit<}
 use lib.ListN.{length, getD, replicate}
 use Rattle.rules.specs.Base.{if_then_else_, Bytes}
 use Rattle.rules.specs.Data.{Held}
-use Rattle.laws.specs.Cell.{num, flagOf, optionNum, optionBytes, Code, Optional, orBlank}
-use Rattle.laws.specs.Fields.{cuts}
-use Rattle.laws.specs.Store.{Store, entries}
+use Rattle.lib_laws.specs.Cell.{num, flagOf, optionNum, optionBytes, Code, Optional, orBlank}
+use Rattle.lib_laws.specs.Fields.{cuts}
+use Rattle.lib_laws.specs.Store.{Store, entries}
 use Rattle.node_addr.specs.View.{viewPair, FitPair}
 use Rattle.node_addr.specs.Place.{pairOf, PairCell, pair-zeros}
 use Rattle.held.specs.declared.record.Held as held

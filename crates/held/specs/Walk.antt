@@ -10,10 +10,10 @@ use Rattle.rules.specs.Base.{option, Bytes, without, alter}
 use Rattle.rules.specs.Std as std
 use Rattle.rules.specs.Data.{Held}
 use Rattle.rules.specs.Settle.{named, earlierHeld}
-use Rattle.laws.specs.Shift.{shown, erase, insert}
-use Rattle.laws.specs.Scan.{scan, Ahead, scan-hit, scan-skip, scan-end, scan-within, length-shows}
-use Rattle.laws.specs.Place.{without-at, without-nowhere, alter-at, alter-nowhere, insert-at, insert-last, insert-end}
-use Rattle.laws.specs.Chunk.{chunks}
+use Rattle.lib_laws.specs.Shift.{shown, erase, insert}
+use Rattle.lib_laws.specs.Scan.{scan, Ahead, scan-hit, scan-skip, scan-end, scan-within, length-shows}
+use Rattle.lib_laws.specs.Place.{without-at, without-nowhere, alter-at, alter-nowhere, insert-at, insert-last, insert-end}
+use Rattle.lib_laws.specs.Chunk.{chunks}
 use Rattle.held.specs.View.{heldOf, viewHeld, FitHeld, heldCount, noHeld, nthHeld}
 use Rattle.held.specs.At.{precedes}
 

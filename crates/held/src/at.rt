@@ -1,7 +1,7 @@
 // The i-th held peer: single cells read where they stand, and the whole.
 use crate::record::Held;
-use memory::flag::get_flag;
-use memory::read::get_be;
+use lib_bytes::flag::get_flag;
+use lib_bytes::read::get_be;
 use node_addr::Digest;
 use node_addr::LinkNo;
 use node_addr::NodeAddr;

@@ -1,8 +1,8 @@
 // Parts of the i-th held peer, written in place.
 use crate::at::current_is;
-use memory::flag::put_flag;
-use memory::write::put_be;
-use memory::write::put_byte;
+use lib_bytes::flag::put_flag;
+use lib_bytes::write::put_be;
+use lib_bytes::write::put_byte;
 use node_addr::LinkNo;
 use node_addr::Pair;
 use node_addr::place::put_pair;

@@ -1,13 +1,13 @@
 // The bytes of a held peer, written at a place.
 use crate::record::Held;
-use memory::flag::put_flag;
-use memory::write::put_be;
+use lib_bytes::flag::put_flag;
+use lib_bytes::write::put_be;
 use node_addr::place::put_digest;
 use node_addr::place::put_node;
 use node_addr::place::put_pair;
 ghost use Prim.Native.Nat.{_+_, _≤_};
 ghost use lib.ListN.{length};
-ghost use Rattle.laws.specs.Splice.{Wrote};
+ghost use Rattle.lib_laws.specs.Splice.{Wrote};
 ghost use Rattle.held.specs.View.{FitRec};
 ghost use Rattle.held.specs.Entry.{heldBytes, frontBytes, backBytes};
 

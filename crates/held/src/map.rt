@@ -1,21 +1,21 @@
 // The held peers of a region: counted, found, inserted in the order of their addresses, and removed.
 use crate::entry::put_held;
 use crate::record::Held;
+use lib_region::count;
+use lib_region::open_chunk;
+use lib_region::remove_chunk;
 use node_addr::Found;
 use node_addr::NodeAddr;
 use node_addr::place::before_here;
 use node_addr::place::node_here;
-use regions::count;
-use regions::open_chunk;
-use regions::remove_chunk;
 ghost use mathlib.Core.Path.{_≡_};
 ghost use Prim.Native.Nat.{_<_};
 ghost use lib.ListN.{length};
 ghost use Rattle.rules.specs.Base.{without};
 ghost use Rattle.rules.specs.Std.{insert};
 ghost use Rattle.rules.specs.Settle.{named, earlierHeld};
-ghost use Rattle.laws.specs.Shift.{erase};
-ghost use Rattle.laws.specs.Scan.{scan};
+ghost use Rattle.lib_laws.specs.Shift.{erase};
+ghost use Rattle.lib_laws.specs.Scan.{scan};
 ghost use Rattle.node_addr.specs.View.{Finds};
 ghost use Rattle.held.specs.View.{FitRec, FitHeld, viewRec, viewHeld, heldCount};
 ghost use Rattle.held.specs.Walk.{Slot};

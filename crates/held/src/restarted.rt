@@ -1,5 +1,5 @@
 // The i-th held peer restarted: another epoch.
-use memory::write::put_be;
+use lib_bytes::write::put_be;
 ghost use mathlib.Core.Path.{_≡_};
 ghost use Prim.Native.Nat.{_<_};
 ghost use lib.ListN.{set};

@@ -10,11 +10,11 @@ use lib.ListN.{length, take, drop, getD, length-map, List·getD-map}
 use Rattle.rules.specs.Base.{Bytes}
 use Rattle.rules.specs.Data.{Pair, samePair, PathRec, LinkRec}
 use Rattle.rules.specs.Links.{provenAt}
-use Rattle.laws.specs.Shift.{shown, getD-any}
-use Rattle.laws.specs.Chunk.{chunks}
-use Rattle.laws.specs.Store.{entries-count}
-use Rattle.link_entry.specs.View.{pathOf, pathCount, noPath, viewLinks, FitLinks, linkCount, noLink}
-use Rattle.link_entry.specs.Here.{paths-here, paths-fit}
+use Rattle.lib_laws.specs.Shift.{shown, getD-any}
+use Rattle.lib_laws.specs.Chunk.{chunks}
+use Rattle.lib_laws.specs.Store.{entries-count}
+use Rattle.links_entry.specs.View.{pathOf, pathCount, noPath, viewLinks, FitLinks, linkCount, noLink}
+use Rattle.links_entry.specs.Here.{paths-here, paths-fit}
 use Rattle.legs.specs.Stored.{reach, length-reach}
 
 abbrev pub linkAt : Bytes → ℕ → LinkRec

@@ -14,17 +14,17 @@ use Rattle.rules.specs.Base.{if_then_else_, one, Bytes}
 use Rattle.rules.specs.Field.{digits}
 use Rattle.rules.specs.Data.{Kind, Leg}
 use Rattle.rules.specs.Legs.{sentKind, unsentKind, markSent, markUnsent, withKind}
-use Rattle.laws.specs.Shift.{fit-at, shown, replaced}
-use Rattle.laws.specs.Splice.{splice, splice-splice, length-splice, length-digits, Wrote}
-use Rattle.laws.specs.Round.{more-digits}
-use Rattle.laws.specs.Part.{getD-past}
-use Rattle.laws.specs.Cell.{byteOf, flagOf, Code, flag-shows}
-use Rattle.laws.specs.Chunk.{chunks, chunk-size, chunks-splice}
-use Rattle.laws.specs.Fields.{cuts, cuts-set, sum}
+use Rattle.lib_laws.specs.Shift.{fit-at, shown, replaced}
+use Rattle.lib_laws.specs.Splice.{splice, splice-splice, length-splice, length-digits, Wrote}
+use Rattle.lib_laws.specs.Round.{more-digits}
+use Rattle.lib_laws.specs.Part.{getD-past}
+use Rattle.lib_laws.specs.Cell.{byteOf, flagOf, Code, flag-shows}
+use Rattle.lib_laws.specs.Chunk.{chunks, chunk-size, chunks-splice}
+use Rattle.lib_laws.specs.Fields.{cuts, cuts-set, sum}
 use Rattle.node_addr.specs.Alike.{byte-here}
-use Rattle.leg_entry.specs.View.{legWs, cell, legFrom, legOf, FitCells, FitLegCell, viewLegs, FitLegs, legCount, noLeg, legAt}
-use Rattle.leg_entry.specs.Entry.{optional-number, cells-here}
-use Rattle.leg_entry.specs.Start.{again}
+use Rattle.legs_entry.specs.View.{legWs, cell, legFrom, legOf, FitCells, FitLegCell, viewLegs, FitLegs, legCount, noLeg, legAt}
+use Rattle.legs_entry.specs.Entry.{optional-number, cells-here}
+use Rattle.legs_entry.specs.Start.{again}
 
 -- the bytes of the i-th leg
 abbrev pub entryAt : Bytes → ℕ → Bytes

@@ -9,12 +9,12 @@ use lib.ListN.{length, take, drop, replicate, getD-replicate}
 use Rattle.rules.specs.Base.{if_then_else_, Bytes, All}
 use Rattle.rules.specs.Bounds.{IsByte}
 use Rattle.rules.specs.Data.{Answered, Kind, Leg}
-use Rattle.laws.specs.Cell.{flagOf, flag-same, text-same, option-num-same, option-bytes-same}
-use Rattle.laws.specs.Chunk.{chunks}
-use Rattle.laws.specs.Fields.{cuts, sum}
-use Rattle.laws.specs.Store.{store-zeros, same-view}
-use Rattle.laws.specs.Same.{cell-bytes, num-cells, cells-same, with-bytes}
-use Rattle.leg_entry.specs.View.{legWs, answerFrom, kindFrom, legOf, FitLegCell, viewLegs, FitLegs, fit-zeros}
+use Rattle.lib_laws.specs.Cell.{flagOf, flag-same, text-same, option-num-same, option-bytes-same}
+use Rattle.lib_laws.specs.Chunk.{chunks}
+use Rattle.lib_laws.specs.Fields.{cuts, sum}
+use Rattle.lib_laws.specs.Store.{store-zeros, same-view}
+use Rattle.lib_laws.specs.Same.{cell-bytes, num-cells, cells-same, with-bytes}
+use Rattle.legs_entry.specs.View.{legWs, answerFrom, kindFrom, legOf, FitLegCell, viewLegs, FitLegs, fit-zeros}
 
 -- ---- new memory
 pub fit-new : FitLegs (replicate 11233 0)

@@ -14,13 +14,13 @@ use Rattle.rules.specs.Data.{Pair, samePair, PathRec, LinkRec, Answered, Leg}
 use Rattle.rules.specs.Links.{provenAt, indexed}
 use Rattle.rules.specs.Legs.{onLink, answered, storedMsg2}
 use Rattle.rules.specs.Settle.{Stored, storedOn, storedIn}
-use Rattle.laws.specs.Scan.{scan}
-use Rattle.laws.specs.Place.{find-at, find-nowhere, place-passes, place-within}
+use Rattle.lib_laws.specs.Scan.{scan}
+use Rattle.lib_laws.specs.Place.{find-at, find-nowhere, place-passes, place-within}
 use Rattle.node_addr.specs.declared.Found.{Found}
 use Rattle.node_addr.specs.declared.Found.the-variants as foundv
-use Rattle.leg_entry.specs.View.{viewLegs, FitLegs, legCount, noLeg, legAt}
-use Rattle.laws.specs.Cell.{orBlank}
-use Rattle.leg_entry.specs.At.{noAnswer, answerOf}
+use Rattle.legs_entry.specs.View.{viewLegs, FitLegs, legCount, noLeg, legAt}
+use Rattle.lib_laws.specs.Cell.{orBlank}
+use Rattle.legs_entry.specs.At.{noAnswer, answerOf}
 use Rattle.legs.specs.Walk.{count-is}
 
 -- ---- what the place of a leg says

@@ -13,12 +13,12 @@ use lib.ListN.{length, drop, drop-of-length-le}
 use Rattle.rules.specs.Base.{if_then_else_, option, one, Bytes, keep}
 use Rattle.rules.specs.Data.{Leg}
 use Rattle.rules.specs.Legs.{answers, answering, wake, nextWake}
-use Rattle.laws.specs.Shift.{shown}
-use Rattle.laws.specs.Scan.{scan, Ahead, scan-hit, scan-skip, scan-end, length-shows}
-use Rattle.laws.specs.Chunk.{chunks}
+use Rattle.lib_laws.specs.Shift.{shown}
+use Rattle.lib_laws.specs.Scan.{scan, Ahead, scan-hit, scan-skip, scan-end, length-shows}
+use Rattle.lib_laws.specs.Chunk.{chunks}
 use Rattle.node_addr.specs.declared.Found.the-variants as foundv
 use Rattle.node_addr.specs.View.{Finds, finds-some, finds-no}
-use Rattle.leg_entry.specs.View.{legOf, viewLegs, FitLegs, legCount, noLeg, legAt}
+use Rattle.legs_entry.specs.View.{legOf, viewLegs, FitLegs, legCount, noLeg, legAt}
 
 pub count-is : {s : Bytes} → FitLegs s → length (viewLegs s) ≡ legCount s
 count-is {s} f = length-shows legOf (legCount s) (chunks 351 32 s) (omega arith)

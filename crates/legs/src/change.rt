@@ -1,10 +1,10 @@
 // Changes of the i-th leg, in place.
-use leg_entry::leg::Again;
-use memory::flag::put_flag;
-use memory::read::get_be;
-use memory::read::get_byte;
-use memory::write::put_be;
-use memory::write::put_byte;
+use legs_entry::leg::Again;
+use lib_bytes::flag::put_flag;
+use lib_bytes::read::get_be;
+use lib_bytes::read::get_byte;
+use lib_bytes::write::put_be;
+use lib_bytes::write::put_byte;
 use params::Params;
 use params::time::resend_at;
 ghost use mathlib.Core.Path.{_≡_};
@@ -15,10 +15,10 @@ ghost use Rattle.rules.specs.Base.{one};
 ghost use Rattle.rules.specs.Std.{saturatingAdd};
 ghost use Rattle.rules.specs.Field.{digits};
 ghost use Rattle.rules.specs.Legs.{resent, markSent, markUnsent};
-ghost use Rattle.laws.specs.Splice.{Wrote};
+ghost use Rattle.lib_laws.specs.Splice.{Wrote};
 ghost use Rattle.params.specs.View.{viewParams};
-ghost use Rattle.leg_entry.specs.Start.{Next};
-ghost use Rattle.leg_entry.specs.View.{FitLegs, viewLegs, legCount, legAt};
+ghost use Rattle.legs_entry.specs.Start.{Next};
+ghost use Rattle.legs_entry.specs.View.{FitLegs, viewLegs, legCount, legAt};
 
 // One more, while it fits.
 fn one_more(sent: u32) -> u32

@@ -1,21 +1,21 @@
 // The legs of a region: counted, found by link, added at the end and removed.
-use leg_entry::at::link_at;
-use leg_entry::entry::put_leg;
-use leg_entry::leg::Leg;
+use legs_entry::at::link_at;
+use legs_entry::entry::put_leg;
+use legs_entry::leg::Leg;
+use lib_region::count;
+use lib_region::remove_chunk;
 use node_addr::Found;
 use node_addr::LinkNo;
-use regions::count;
-use regions::remove_chunk;
 ghost use mathlib.Core.Path.{_≡_};
 ghost use mathlib.Core.List.{[], _∷_, _++_};
 ghost use Prim.Native.Nat.{_<_};
 ghost use lib.ListN.{length};
 ghost use Rattle.rules.specs.Base.{without};
 ghost use Rattle.rules.specs.Legs.{onLink};
-ghost use Rattle.laws.specs.Shift.{erase};
-ghost use Rattle.laws.specs.Scan.{scan};
+ghost use Rattle.lib_laws.specs.Shift.{erase};
+ghost use Rattle.lib_laws.specs.Scan.{scan};
 ghost use Rattle.node_addr.specs.View.{Finds};
-ghost use Rattle.leg_entry.specs.View.{FitLeg, FitLegs, viewLeg, viewLegs, legCount};
+ghost use Rattle.legs_entry.specs.View.{FitLeg, FitLegs, viewLeg, viewLegs, legCount};
 
 pub fn leg_count(s: &[u8]) -> usize
     requires { ⌜ FitLegs (now s) ⌝ }

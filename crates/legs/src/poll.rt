@@ -1,9 +1,9 @@
 // What poll and wake look for: answers in flight, legs past their deadline, resends that are due, the earliest of them.
 use crate::map::leg_count;
-use leg_entry::at::answers_at;
-use leg_entry::at::deadline_at;
-use leg_entry::at::next_at;
-use leg_entry::at::timed_at;
+use legs_entry::at::answers_at;
+use legs_entry::at::deadline_at;
+use legs_entry::at::next_at;
+use legs_entry::at::timed_at;
 use node_addr::Found;
 ghost use mathlib.Core.Path.{_≡_};
 ghost use mathlib.Core.Bool.{true, false};
@@ -11,11 +11,11 @@ ghost use Prim.Native.Nat.{_≤_, _<_, min};
 ghost use lib.ListN.{drop};
 ghost use Rattle.rules.specs.Base.{if_then_else_, one};
 ghost use Rattle.rules.specs.Legs.{answering, wake, nextWake};
-ghost use Rattle.laws.specs.Scan.{scan};
+ghost use Rattle.lib_laws.specs.Scan.{scan};
 ghost use Rattle.node_addr.specs.View.{Finds};
-ghost use Rattle.leg_entry.specs.View.{FitLegs, viewLegs, legCount, legAt};
+ghost use Rattle.legs_entry.specs.View.{FitLegs, viewLegs, legCount, legAt};
 ghost use Rattle.legs.specs.Walk.{perhaps};
-ghost use Rattle.leg_entry.specs.At.{resendDue, pastDeadline};
+ghost use Rattle.legs_entry.specs.At.{resendDue, pastDeadline};
 
 // `at` counts only if `some`.
 pub struct Wake {

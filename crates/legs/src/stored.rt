@@ -1,12 +1,12 @@
 // The search for a stored msg2: over the links in ascending order, and the addresses of each whose leg yields one, left at the first that counts.
 use crate::map::find_leg;
 use crate::map::leg_count;
-use leg_entry::at::stored_at;
-use link_entry::read::link_count;
-use link_entry::read::no_at;
-use link_entry::read::released_at;
-use link_entry::read::setup_stands;
-use memory::read::get_byte;
+use legs_entry::at::stored_at;
+use lib_bytes::read::get_byte;
+use links_entry::read::link_count;
+use links_entry::read::no_at;
+use links_entry::read::released_at;
+use links_entry::read::setup_stands;
 use node_addr::Found;
 use node_addr::LinkNo;
 use node_addr::place::pair_stands;
@@ -17,10 +17,10 @@ ghost use Prim.Native.Nat.{_+_, _≤_, _<_};
 ghost use lib.ListN.{length, take, drop, getD};
 ghost use Rattle.rules.specs.Links.{provenAt};
 ghost use Rattle.rules.specs.Settle.{storedIn};
-ghost use Rattle.laws.specs.Chunk.{chunks};
+ghost use Rattle.lib_laws.specs.Chunk.{chunks};
 ghost use Rattle.node_addr.specs.Place.{pairHere, PairIn};
-ghost use Rattle.link_entry.specs.View.{pathOf, FitPaths, pathCount, FitLinks, viewLinks, linkCount};
-ghost use Rattle.leg_entry.specs.View.{FitLegs, viewLegs};
+ghost use Rattle.links_entry.specs.View.{pathOf, FitPaths, pathCount, FitLinks, viewLinks, linkCount};
+ghost use Rattle.legs_entry.specs.View.{FitLegs, viewLegs};
 ghost use Rattle.legs.specs.Stored.{Tells, yieldOf, reach, toLook};
 ghost use Rattle.legs.specs.Addresses.{linkAt};
 

@@ -14,22 +14,22 @@ use Rattle.rules.specs.Base.{Bytes, one}
 use Rattle.rules.specs.Data.{Pair, samePair, Dir, Inbound, Outbound, Holder, APeer, Proven, PathRec, LinkRec}
 use Rattle.rules.specs.Field.{digits}
 use Rattle.rules.specs.Links.{numbered, opened, heldBy, hold, withPath, path, withoutPath, released, retired}
-use Rattle.laws.specs.Shift.{erase}
-use Rattle.laws.specs.Scan.{scan}
-use Rattle.laws.specs.Place.{alter-at, alter-nowhere, without-at, without-nowhere}
-use Rattle.laws.specs.Splice.{splice, Wrote, length-digits}
-use Rattle.laws.specs.Round.{more-digits}
-use Rattle.laws.specs.Part.{put-is}
-use Rattle.laws.specs.Cell.{Code, flag-shows, flag-code}
-use Rattle.laws.specs.Chunk.{joined}
-use Rattle.laws.specs.Fields.{cuts, cuts-set, cuts-joined, sum}
-use Rattle.laws.specs.Store.{changed-is, entries-count}
+use Rattle.lib_laws.specs.Shift.{erase}
+use Rattle.lib_laws.specs.Scan.{scan}
+use Rattle.lib_laws.specs.Place.{alter-at, alter-nowhere, without-at, without-nowhere}
+use Rattle.lib_laws.specs.Splice.{splice, Wrote, length-digits}
+use Rattle.lib_laws.specs.Round.{more-digits}
+use Rattle.lib_laws.specs.Part.{put-is}
+use Rattle.lib_laws.specs.Cell.{Code, flag-shows, flag-code}
+use Rattle.lib_laws.specs.Chunk.{joined}
+use Rattle.lib_laws.specs.Fields.{cuts, cuts-set, cuts-joined, sum}
+use Rattle.lib_laws.specs.Store.{changed-is, entries-count}
 use Rattle.node_addr.specs.View.{viewPair, FitPair}
 use Rattle.node_addr.specs.Place.{pairCell, pair-cell-length, pair-cell-fit, pair-cell-shows}
 use Rattle.node_addr.specs.declared.Pair as pair
-use Rattle.link_entry.specs.View.{viewPaths, FitPaths, linkWs, dirOf, dirCode, linkFrom, linkOf, FitFields, FitLink, viewLinks, FitLinks, linkCount, noLink, withPaths, withReleased, markedAt, cutAt}
-use Rattle.link_entry.specs.Here.{span, span-is, paths-show}
-use Rattle.link_entry.specs.Zeros.{paths-zeros}
+use Rattle.links_entry.specs.View.{viewPaths, FitPaths, linkWs, dirOf, dirCode, linkFrom, linkOf, FitFields, FitLink, viewLinks, FitLinks, linkCount, noLink, withPaths, withReleased, markedAt, cutAt}
+use Rattle.links_entry.specs.Here.{span, span-is, paths-show}
+use Rattle.links_entry.specs.Zeros.{paths-zeros}
 
 -- ---- codes
 dir-shows : (d : Dir) → dirOf (dirCode d) ≡ d

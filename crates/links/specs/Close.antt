@@ -11,14 +11,14 @@ use lib.ListN.{length, take, drop, getD, replicate, drop-of-length-le}
 use Rattle.rules.specs.Base.{if_then_else_, any, keep}
 use Rattle.rules.specs.Data.{Pair, samePair, PathRec, LinkRec}
 use Rattle.rules.specs.Links.{numbered, inUse, once, addresses, retiring, released, releasing}
-use Rattle.laws.specs.Shift.{Kept, erase, all-replicate}
-use Rattle.laws.specs.Scan.{scan, shows-cons, length-shows}
-use Rattle.laws.specs.Place.{find-at, find-nowhere, any-at, any-nowhere, without-at}
+use Rattle.lib_laws.specs.Shift.{Kept, erase, all-replicate}
+use Rattle.lib_laws.specs.Scan.{scan, shows-cons, length-shows}
+use Rattle.lib_laws.specs.Place.{find-at, find-nowhere, any-at, any-nowhere, without-at}
 use Rattle.node_addr.specs.View.{FitPair, viewPair, blankPair, fit-blank-pair}
-use Rattle.link_entry.specs.View.{noLink, viewPath, viewLink, FitRec}
+use Rattle.links_entry.specs.View.{noLink, viewPath, viewLink, FitRec}
 use Rattle.links.specs.View.{viewCloses, FitCloses}
-use Rattle.link_entry.specs.declared.record.Path as path
-use Rattle.link_entry.specs.declared.record.LinkRec as linkrec
+use Rattle.links_entry.specs.declared.record.Path as path
+use Rattle.links_entry.specs.declared.record.LinkRec as linkrec
 use Rattle.links.specs.declared.record.Closes as closes
 
 pub closes-none : Kept FitPair blankPair 5 0 (replicate 5 blankPair)

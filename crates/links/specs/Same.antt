@@ -9,13 +9,13 @@ use lib.ListN.{length, take, drop, length-drop, take-append-drop}
 use Rattle.rules.specs.Base.{if_then_else_, Bytes, All}
 use Rattle.rules.specs.Bounds.{IsByte}
 use Rattle.rules.specs.Data.{ALeg, APeer, PathRec, LinkRec}
-use Rattle.laws.specs.Shift.{all-take}
-use Rattle.laws.specs.Cell.{byteOf, flagOf, byte-same, flag-same, num-same}
-use Rattle.laws.specs.Fields.{cuts, sum}
-use Rattle.laws.specs.Store.{same-view}
-use Rattle.laws.specs.Same.{cell-size, cell-bytes, cells-same, with-bytes}
+use Rattle.lib_laws.specs.Shift.{all-take}
+use Rattle.lib_laws.specs.Cell.{byteOf, flagOf, byte-same, flag-same, num-same}
+use Rattle.lib_laws.specs.Fields.{cuts, sum}
+use Rattle.lib_laws.specs.Store.{same-view}
+use Rattle.lib_laws.specs.Same.{cell-size, cell-bytes, cells-same, with-bytes}
 use Rattle.node_addr.specs.Place.{pair-cell-same}
-use Rattle.link_entry.specs.View.{stateOf, pathOf, FitPath, viewPaths, FitPaths, linkWs, dirOf, holderOf, linkOf, FitHolder, FitLink, viewLinks, FitLinks}
+use Rattle.links_entry.specs.View.{stateOf, pathOf, FitPath, viewPaths, FitPaths, linkWs, dirOf, holderOf, linkOf, FitHolder, FitLink, viewLinks, FitLinks}
 
 -- ---- codes
 state-apart : (x y : ℕ) → x < 3 → y < 3 → stateOf x ≡ stateOf y → x ≡ y

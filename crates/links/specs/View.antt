@@ -1,12 +1,12 @@
--- What link records show, as link_entry says it; and what the connections to close show.
+-- What link records show, as links_entry says it; and what the connections to close show.
 use mathlib.Core.List.{List, map}
 use lib.ListN.{take}
 use Rattle.rules.specs.Data.{Pair}
-use Rattle.laws.specs.Shift.{Kept}
+use Rattle.lib_laws.specs.Shift.{Kept}
 use Rattle.node_addr.specs.View.{viewPair, FitPair, blankPair}
 use Rattle.links.specs.declared.record.Closes as closes
-pub use Rattle.link_entry.specs.View.{pathOf, FitPaths, pathCount, noPath, linkOf, viewLinks, FitLinks, linkCount, noLink, viewDir, viewProven}
-unfoldable pub use Rattle.link_entry.specs.View.{crowding}
+pub use Rattle.links_entry.specs.View.{pathOf, FitPaths, pathCount, noPath, linkOf, viewLinks, FitLinks, linkCount, noLink, viewDir, viewProven}
+unfoldable pub use Rattle.links_entry.specs.View.{crowding}
 
 abbrev pub viewCloses : closes.Closes → List Pair
 viewCloses l = map viewPair (take (l .len) (l .pairs))

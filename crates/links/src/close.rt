@@ -2,10 +2,10 @@
 use crate::record::Closes;
 use crate::write::release_at;
 use crate::write::remove_link;
-use link_entry::read::find_link;
-use link_entry::read::get_link;
-use link_entry::read::in_use;
-use link_entry::record::LinkRec;
+use links_entry::read::find_link;
+use links_entry::read::get_link;
+use links_entry::read::in_use;
+use links_entry::record::LinkRec;
 use node_addr::Found;
 use node_addr::LinkNo;
 use node_addr::Pair;
@@ -19,7 +19,7 @@ ghost use Rattle.rules.specs.Base.{if_then_else_, any, keep};
 ghost use Rattle.rules.specs.Data.{samePair};
 ghost use Rattle.rules.specs.Links.{inUse, addresses, retired, retiring, released, releasing};
 ghost use Rattle.node_addr.specs.View.{FitPair, viewPair};
-ghost use Rattle.link_entry.specs.View.{FitLinks, viewLinks, FitRec, viewLink};
+ghost use Rattle.links_entry.specs.View.{FitLinks, viewLinks, FitRec, viewLink};
 ghost use Rattle.links.specs.View.{FitCloses, viewCloses};
 
 pub fn no_closes() -> Closes

@@ -1,21 +1,21 @@
 // Link records changed where they stand.
-use link_entry::paths::drop_paths;
-use link_entry::paths::put_path;
-use link_entry::read::find_link;
-use link_entry::read::released_at;
-use link_entry::read::setup_is;
-use link_entry::record::Dir;
-use link_entry::record::Proven;
-use memory::write::clear;
-use memory::write::put_16;
-use memory::write::put_be;
-use memory::write::put_byte;
+use lib_bytes::write::clear;
+use lib_bytes::write::put_16;
+use lib_bytes::write::put_be;
+use lib_bytes::write::put_byte;
+use lib_region::remove_chunk;
+use links_entry::paths::drop_paths;
+use links_entry::paths::put_path;
+use links_entry::read::find_link;
+use links_entry::read::released_at;
+use links_entry::read::setup_is;
+use links_entry::record::Dir;
+use links_entry::record::Proven;
 use node_addr::Found;
 use node_addr::LinkNo;
 use node_addr::NodeAddr;
 use node_addr::Pair;
 use node_addr::place::put_pair;
-use regions::remove_chunk;
 ghost use mathlib.Core.Path.{_≡_};
 ghost use mathlib.Core.Bool.{false, _||_};
 ghost use mathlib.Core.List.{[], _∷_, _++_};
@@ -24,9 +24,9 @@ ghost use lib.ListN.{getD, set};
 ghost use Rattle.rules.specs.Base.{one};
 ghost use Rattle.rules.specs.Data.{APeer};
 ghost use Rattle.rules.specs.Links.{opened, heldBy, hold, withPath, path, retired, withoutPath};
-ghost use Rattle.laws.specs.Shift.{erase};
+ghost use Rattle.lib_laws.specs.Shift.{erase};
 ghost use Rattle.node_addr.specs.View.{FitPair, viewPair};
-ghost use Rattle.link_entry.specs.View.{FitLinks, viewLinks, linkCount, noLink, dirCode, viewDir, viewProven, full, crowding, markedAt, cutAt};
+ghost use Rattle.links_entry.specs.View.{FitLinks, viewLinks, linkCount, noLink, dirCode, viewDir, viewProven, full, crowding, markedAt, cutAt};
 
 fn dir_code(d: Dir) -> u8
     ensures { λ r. ⌜ r ≡ dirCode (viewDir d) ⌝ }

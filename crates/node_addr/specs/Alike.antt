@@ -9,12 +9,12 @@ use lib.ListN.{length, take, drop, take-append-drop, length-take, length-drop}
 use Rattle.rules.specs.Base.{Bytes, same}
 use Rattle.rules.specs.Std.{before}
 use Rattle.rules.specs.Data.{Pair, samePair}
-use Rattle.laws.specs.Shift.{Kept}
-pub use Rattle.laws.specs.Part.{part-of}
-pub use Rattle.laws.specs.Cell.{byte-here}
-use Rattle.laws.specs.Buffer.{Any, kept-length}
-use Rattle.laws.specs.Words.{same-append}
-use Rattle.laws.specs.Beside.{same-yes, same-no, same-true, same-apart}
+use Rattle.lib_laws.specs.Shift.{Kept}
+pub use Rattle.lib_laws.specs.Part.{part-of}
+pub use Rattle.lib_laws.specs.Cell.{byte-here}
+use Rattle.lib_laws.specs.Buffer.{Any, kept-length}
+use Rattle.lib_laws.specs.Words.{same-append}
+use Rattle.lib_laws.specs.Beside.{same-yes, same-no, same-true, same-apart}
 
 -- a run in two parts
 module _ (k m : ℕ) (s : Bytes) (at : ℕ) (t : Bytes) (from : ℕ) (h : at + k ≤ length s) (g : from + k ≤ length t) where

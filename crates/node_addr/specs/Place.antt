@@ -15,14 +15,14 @@ use Rattle.rules.specs.Base.{Bytes, All, same}
 use Rattle.rules.specs.Bounds.{IsByte}
 use Rattle.rules.specs.Data.{Pair, samePair}
 use Rattle.rules.specs.Field.{more, digits}
-use Rattle.laws.specs.Shift.{all-take}
-use Rattle.laws.specs.Buffer.{all-any, kept-filled, shown-filled}
-use Rattle.laws.specs.Beside.{same-apart}
-use Rattle.laws.specs.Words.{Octets, octets-run, octets-take, number-same, same-append}
-use Rattle.laws.specs.Splice.{length-digits, Wrote}
-use Rattle.laws.specs.Round.{more-digits}
-use Rattle.laws.specs.Part.{part-of, part-at}
-use Rattle.laws.specs.Cell.{num, byteOf, textOf, Text, text-same, num-same}
+use Rattle.lib_laws.specs.Shift.{all-take}
+use Rattle.lib_laws.specs.Buffer.{all-any, kept-filled, shown-filled}
+use Rattle.lib_laws.specs.Beside.{same-apart}
+use Rattle.lib_laws.specs.Words.{Octets, octets-run, octets-take, number-same, same-append}
+use Rattle.lib_laws.specs.Splice.{length-digits, Wrote}
+use Rattle.lib_laws.specs.Round.{more-digits}
+use Rattle.lib_laws.specs.Part.{part-of, part-at}
+use Rattle.lib_laws.specs.Cell.{num, byteOf, textOf, Text, text-same, num-same}
 use Rattle.node_addr.specs.View.{viewPair, viewMessage, FitPair, FitMessage}
 use Rattle.node_addr.specs.Alike.{byte-here, pair-unlike, pair-like, same-unlike, same-kept}
 use Rattle.node_addr.specs.declared.Pair as pair

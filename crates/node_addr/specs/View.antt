@@ -6,8 +6,8 @@ use lib.Dec.{lit≤}
 use lib.ListN.{take, replicate}
 use Rattle.rules.specs.Base.{Bytes}
 use Rattle.rules.specs.Data.{Pair}
-use Rattle.laws.specs.Shift.{Kept}
-use Rattle.laws.specs.Buffer.{Any, all-any}
+use Rattle.lib_laws.specs.Shift.{Kept}
+use Rattle.lib_laws.specs.Buffer.{Any, all-any}
 use Rattle.node_addr.specs.declared.NodeAddr as nodeaddr
 use Rattle.node_addr.specs.declared.TransportId as transportid
 use Rattle.node_addr.specs.declared.Digest as digest

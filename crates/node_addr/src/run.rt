@@ -1,5 +1,5 @@
 // Runs of 16, 32 and 48 bytes compared where they stand, word by word, up to the first that differs.
-use memory::word::word_8;
+use lib_bytes::word::word_8;
 ghost use mathlib.Core.Path.{_≡_};
 ghost use Prim.Native.Nat.{_+_, _≤_};
 ghost use lib.ListN.{length, take, drop};

@@ -13,14 +13,14 @@ use Rattle.rules.specs.Base.{Bytes, All}
 use Rattle.rules.specs.Bounds.{IsByte}
 use Rattle.rules.specs.Field.{digits}
 use Rattle.rules.specs.Time.{Params, outOfRange}
-use Rattle.laws.specs.Shift.{all-take, all-drop, all-at}
-use Rattle.laws.specs.Splice.{length-splice, length-digits, Wrote}
-use Rattle.laws.specs.Round.{more-digits}
-use Rattle.laws.specs.Part.{part-before, part-after, part-same}
-use Rattle.laws.specs.Chunk.{joined}
-use Rattle.laws.specs.Fields.{cuts, sum, cuts-spelt, length-joined}
-use Rattle.laws.specs.Cell.{num, byteOf, num-same, Code, byte-same}
-use Rattle.laws.specs.Same.{num-cells, cells-same}
+use Rattle.lib_laws.specs.Shift.{all-take, all-drop, all-at}
+use Rattle.lib_laws.specs.Splice.{length-splice, length-digits, Wrote}
+use Rattle.lib_laws.specs.Round.{more-digits}
+use Rattle.lib_laws.specs.Part.{part-before, part-after, part-same}
+use Rattle.lib_laws.specs.Chunk.{joined}
+use Rattle.lib_laws.specs.Fields.{cuts, sum, cuts-spelt, length-joined}
+use Rattle.lib_laws.specs.Cell.{num, byteOf, num-same, Code, byte-same}
+use Rattle.lib_laws.specs.Same.{num-cells, cells-same}
 use Rattle.node_addr.specs.Alike.{part-of, byte-here}
 use Rattle.params.specs.View.{viewParams, in-range-says}
 use Rattle.params.specs.declared.Params as params

@@ -1,9 +1,9 @@
 // The head region, 98 bytes: the node's own address 16, the settings 74, the next link number 8.
 use crate::Params;
-use memory::read::get_be;
-use memory::read::get_byte;
-use memory::write::put_be;
-use memory::write::put_byte;
+use lib_bytes::read::get_be;
+use lib_bytes::read::get_byte;
+use lib_bytes::write::put_be;
+use lib_bytes::write::put_byte;
 use node_addr::NodeAddr;
 use node_addr::place::load_node;
 use node_addr::place::put_node;
@@ -12,7 +12,7 @@ ghost use mathlib.Core.Bool.{false};
 ghost use Prim.Native.Nat.{_+_, _≤_};
 ghost use lib.ListN.{length};
 ghost use Rattle.rules.specs.Time.{outOfRange};
-ghost use Rattle.laws.specs.Splice.{Wrote};
+ghost use Rattle.lib_laws.specs.Splice.{Wrote};
 ghost use Rattle.params.specs.View.{viewParams};
 ghost use Rattle.params.specs.Head.{viewMe, viewNext, paramsOf, FitHead, Shows, spansCell, countsCell};
 

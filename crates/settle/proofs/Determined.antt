@@ -8,8 +8,8 @@ use Rattle.rules.specs.Data.{Result}
 use Rattle.rules.specs.Output.{outputs}
 use Rattle.rules.specs.Bounds.{IsByte}
 use Rattle.rules.specs.Entry as rule
-use Rattle.state.specs.View.{viewTable}
-use Rattle.state.specs.Same.{same-table}
+use Rattle.table_layout.specs.View.{viewTable}
+use Rattle.table_layout.specs.Same.{same-table}
 use Rattle.settle.specs.Contract.{Called, ruled, ruledBytes}
 
 pub record Same (t₁ t₂ o₁ o₂ : Bytes) (n₁ n₂ k₁ k₂ : ℕ) : Type 0 where

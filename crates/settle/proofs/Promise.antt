@@ -11,8 +11,8 @@ use Rattle.rules.specs.Settle.{_▸_}
 use Rattle.rules.specs.Entry as rule
 use Rattle.rules.specs.Claim.{Fed, play, holding, given, Owned, Account}
 use Rattle.rules.proofs.Demand.{demand}
-use Rattle.output.specs.Write.{outputs-append}
-use Rattle.state.specs.View.{viewTable}
+use Rattle.output_record.specs.Write.{outputs-append}
+use Rattle.table_layout.specs.View.{viewTable}
 use Rattle.settle.specs.Contract.{Called, ruled, ruledBytes}
 use Rattle.settle.specs.Promise.{Chain, end, call, Promise}
 

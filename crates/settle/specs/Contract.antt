@@ -10,7 +10,7 @@ use Rattle.rules.specs.Output.{outputs}
 use Rattle.rules.specs.Entry.{Made, Refused}
 use Rattle.rules.specs.Entry as rule
 use Rattle.rules.specs.Bounds.{Bounds}
-use Rattle.state.specs.View.{viewTable, FitTable}
+use Rattle.table_layout.specs.View.{viewTable, FitTable}
 
 -- a table that new or a call left: canonical bytes, within the limits
 pub record Left (t : Bytes) : Type 0 where

@@ -20,16 +20,16 @@ use Rattle.rules.specs.Entry as rule
 use Rattle.rules.specs.Bounds.{IsByte, Bounds}
 use Rattle.rules.proofs.Bounds.{bounds-new, bounds-call}
 use Rattle.rules.proofs.Size as size
-use Rattle.laws.specs.Splice.{splice}
+use Rattle.lib_laws.specs.Splice.{splice}
 use Rattle.params.specs.View.{viewParams}
-use Rattle.begin.specs.Begin.{News, beginOf, news-start}
-use Rattle.begin.specs.declared.ReadNew as readnew
-use Rattle.state.specs.View.{viewTable, Told}
-use Rattle.steps.specs.Did.{Space, Ruled, ruled-refused, ruled-is, space-result}
-use Rattle.steps.specs.Sound.{Ready, sound-bounds}
-use Rattle.calls.specs.Read.{kindFields}
-use Rattle.input.specs.Frame.{Opens}
-use Rattle.table.specs.Ask.{answered, Asked, Answers}
+use Rattle.input_new.specs.Begin.{News, beginOf, news-start}
+use Rattle.input_new.specs.declared.ReadNew as readnew
+use Rattle.table_layout.specs.View.{viewTable, Told}
+use Rattle.call_contract.specs.Did.{Space, Ruled, ruled-refused, ruled-is, space-result}
+use Rattle.call_contract.specs.Sound.{Ready, sound-bounds}
+use Rattle.input_hello.specs.Read.{kindFields}
+use Rattle.input_frame.specs.Frame.{Opens}
+use Rattle.call_step.specs.Ask.{answered, Asked, Answers}
 use Rattle.settle.specs.Contract.{Left, Begun, ruled, ruledBytes, Called}
 
 pub ready : {t : Bytes} → Left t → Ready t

@@ -8,7 +8,7 @@ use Rattle.rules.specs.Data.{Output}
 use Rattle.rules.specs.Output.{outputs}
 use Rattle.rules.specs.Claim.{Fed, play, accepted, holding, given, UnusedAfter, Owned}
 use Rattle.rules.specs.Bounds.{IsByte}
-use Rattle.state.specs.View.{viewTable}
+use Rattle.table_layout.specs.View.{viewTable}
 use Rattle.settle.specs.Contract.{Begun, Called}
 
 -- Calls in a row, each lent the table that the last one left, with any record and any buffer: from the table t to the table u.

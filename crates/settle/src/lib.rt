@@ -1,11 +1,11 @@
 // The entries: a table is made by `new`, and changed by `call` alone. Both answer every record, whatever its bytes.
 pub mod export;
 
-use begin::read_new;
-use input::read_opening;
-use start::start;
-use steps::Answer;
-use table::step;
+use call_contract::Answer;
+use call_step::step;
+use input_frame::read_opening;
+use input_new::read_new;
+use table_new::start;
 ghost use mathlib.Core.Path.{_≡_};
 ghost use lib.ListN.{length};
 ghost use Rattle.settle.specs.Contract.{Left, Begun, Called};

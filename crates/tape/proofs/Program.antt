@@ -13,7 +13,7 @@ use Rattle.rules.specs.Field.{more}
 use Rattle.rules.specs.Output.{doneRecord}
 use Rattle.rules.specs.Entry.{Start, Made, Refused}
 use Rattle.rules.specs.Tape.{extent, calls, session}
-use Rattle.laws.specs.Parse.{number-yes, number-no}
+use Rattle.lib_laws.specs.Parse.{number-yes, number-no}
 use Rattle.settle.specs.Promise.{Chain, end, call}
 use Rattle.settle.proofs.Promise.{promise}
 use Rattle.tape.specs.Feed.{Cut, Comes, Run, end, turn, Taped, fed, Kept, run-calls}

@@ -15,7 +15,7 @@ use Rattle.rules.specs.Tape.{calls}
 use Rattle.rules.specs.Tape as rule
 use Rattle.rules.specs.Claim.{Fed}
 use Rattle.rules.specs.Bounds.{IsByte}
-use Rattle.state.specs.View.{viewTable}
+use Rattle.table_layout.specs.View.{viewTable}
 use Rattle.settle.specs.Contract.{Left, Begun}
 use Rattle.settle.specs.Promise.{Promised}
 use Rattle.tape.specs.Turn.{Opens, Turns}

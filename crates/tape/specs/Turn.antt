@@ -10,8 +10,8 @@ use Rattle.rules.specs.Data.{Result}
 use Rattle.rules.specs.Output.{outputs, doneRecord}
 use Rattle.rules.specs.Entry as rule
 use Rattle.rules.specs.Bounds.{IsByte}
-use Rattle.state.specs.View.{viewTable}
-use Rattle.laws.specs.Splice.{splice, Wrote, length-splice}
+use Rattle.table_layout.specs.View.{viewTable}
+use Rattle.lib_laws.specs.Splice.{splice, Wrote, length-splice}
 use Rattle.settle.specs.Contract.{Left, Begun, Called, ruled, ruledBytes}
 
 -- new's answer, and its Done

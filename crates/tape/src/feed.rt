@@ -1,7 +1,7 @@
 // A whole tape, record by record, of any length.
 use crate::turn::opening;
 use crate::turn::turn;
-use memory::read::get_be;
+use lib_bytes::read::get_be;
 ghost use mathlib.Core.Path.{_≡_};
 ghost use mathlib.Core.Bool.{true, false};
 ghost use Prim.Native.Nat.{_≤_, min};

@@ -1,5 +1,5 @@
 // The first record of a tape, and each other one.
-use output::put::put_done;
+use output_record::put::put_done;
 use settle::call;
 use settle::new;
 ghost use mathlib.Core.Path.{_≡_};

@@ -1,4 +1,4 @@
-//! The stored tapes of crates/replay through the wrapper: the bytes are those that the original table wrote.
+//! The stored tapes of crates/tape_replay through the wrapper: the bytes are those that the original table wrote.
 use settle::{OUT, Table};
 use std::io::Write;
 use std::path::{Path, PathBuf};
@@ -6,7 +6,7 @@ use std::process::{Command, Stdio};
 use std::{fs, thread};
 
 fn stored(name: &str) -> Vec<u8> {
-    let file = PathBuf::from(env!("CARGO_MANIFEST_DIR")).join("../../crates/replay").join(name);
+    let file = PathBuf::from(env!("CARGO_MANIFEST_DIR")).join("../../crates/tape_replay").join(name);
     fs::read(file).expect("the stored tapes are in the repository")
 }
 

@@ -77,7 +77,7 @@ impl Report {
         let each = self.mixed.map(|(a, b)| (a / MIXED.calls as f64, b / MIXED.calls as f64));
         let checked = format!(
             "Best of {} runs of about 1,000 calls each, after a tenth as many to warm up. Before anything was timed, {} calls of these \
-             inputs and {} records of the stored tapes (crates/replay) gave the same output bytes on both sides.\n",
+             inputs and {} records of the stored tapes (crates/tape_replay) gave the same output bytes on both sides.\n",
             self.runs,
             grouped(self.compared),
             grouped(self.depths.records)

@@ -1,7 +1,7 @@
 -- `settle::call` meets its contract.
 use mathlib.Core.Path.{sym, _∙_}
 use denote.Ref.{now}
-use Rattle.steps.specs.Did.{puts-length}
+use Rattle.call_contract.specs.Did.{puts-length}
 use Rattle.settle.specs.Meets.{all-bytes, call-short, call-unread, call-asked, call-done}
 use borrow.Author.Needs.{needs}
 use Rattle.settle.proofs.call.Statement.{statement}

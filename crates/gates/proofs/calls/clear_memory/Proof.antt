@@ -4,8 +4,8 @@ use lib.ListN.{set}
 use Rattle.rules.specs.Base.{if_then_else_}
 use Rattle.rules.specs.Data.{Memory}
 use Rattle.rules.specs.Gates.{remembers, clear}
-use Rattle.laws.specs.Shift.{erase}
-use Rattle.memory_entry.specs.View.{viewGates}
+use Rattle.lib_laws.specs.Shift.{erase}
+use Rattle.gates_entry.specs.View.{viewGates}
 use Rattle.gates.proofs.calls.clear_memory.Statement.{statement}
 use Rattle.gates.proofs.calls.clear_memory.Tie as tie
 

@@ -4,8 +4,8 @@ use borrow.Author.Needs.{needs}
 use Rattle.rules.specs.Data.{Memory}
 use Rattle.rules.specs.Gates.{memory, store, ended}
 use Rattle.params.specs.View.{viewParams}
-use Rattle.memories.specs.View.{optional, viewMemory, Within}
-use Rattle.memory_entry.specs.View.{viewGates}
+use Rattle.gates_types.specs.View.{optional, viewMemory, Within}
+use Rattle.gates_entry.specs.View.{viewGates}
 use Rattle.gates.specs.Order.{room-for, ended-peer, memory-peer, within-memory}
 use Rattle.gates.proofs.calls.ended.Statement.{statement}
 use Rattle.gates.proofs.calls.ended.Tie as tie

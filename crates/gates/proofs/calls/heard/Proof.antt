@@ -1,9 +1,9 @@
 use mathlib.Core.Path.{_∙_}
 use borrow.Author.Needs.{needs}
 use Rattle.rules.specs.Gates.{memoryOf}
-use Rattle.laws.specs.Store.{entry-within}
+use Rattle.lib_laws.specs.Store.{entry-within}
 use Rattle.node_addr.specs.View.{finds-at, finds-none}
-use Rattle.memory_entry.specs.View.{entryOf, viewGates, noMemory}
+use Rattle.gates_entry.specs.View.{entryOf, viewGates, noMemory}
 use Rattle.gates.specs.Order.{heard-found, store-blank}
 use Rattle.gates.proofs.calls.heard.Statement.{statement}
 use Rattle.gates.proofs.calls.heard.Tie as tie

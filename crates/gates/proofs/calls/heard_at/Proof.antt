@@ -1,7 +1,7 @@
 use mathlib.Core.Path.{sym, _∙_}
 use borrow.Author.Needs.{needs}
 use borrow.Author.Tests.{not-false}
-use Rattle.memory_entry.specs.View.{viewGates, noMemory}
+use Rattle.gates_entry.specs.View.{viewGates, noMemory}
 use Rattle.gates.specs.Order.{kept-still}
 use Rattle.gates.proofs.calls.heard_at.Statement.{statement}
 use Rattle.gates.proofs.calls.heard_at.Tie as tie

@@ -1,11 +1,11 @@
 use mathlib.Core.Path.{ap, _∙_}
 use borrow.Author.Needs.{needs}
 use Rattle.rules.specs.Gates.{memoryOf, gate}
-use Rattle.laws.specs.Store.{entry-within}
+use Rattle.lib_laws.specs.Store.{entry-within}
 use Rattle.node_addr.specs.View.{finds-at, finds-none}
 use Rattle.params.specs.View.{viewParams}
-use Rattle.memories.specs.View.{asking}
-use Rattle.memory_entry.specs.View.{entryOf, viewGates, noMemory}
+use Rattle.gates_types.specs.View.{asking}
+use Rattle.gates_entry.specs.View.{entryOf, viewGates, noMemory}
 use Rattle.gates.specs.Order.{memory-at, memory-none}
 use Rattle.gates.proofs.calls.judged.Statement.{statement}
 use Rattle.gates.proofs.calls.judged.Tie as tie

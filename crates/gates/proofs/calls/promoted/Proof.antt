@@ -3,8 +3,8 @@ use borrow.Author.Needs.{needs}
 use Rattle.rules.specs.Data.{Memory}
 use Rattle.rules.specs.Gates.{memory, store, promoted}
 use Rattle.params.specs.View.{viewParams}
-use Rattle.memories.specs.View.{viewMemory}
-use Rattle.memory_entry.specs.View.{viewGates}
+use Rattle.gates_types.specs.View.{viewMemory}
+use Rattle.gates_entry.specs.View.{viewGates}
 use Rattle.gates.specs.Order.{room-for, promoted-peer, memory-peer}
 use Rattle.gates.proofs.calls.promoted.Statement.{statement}
 use Rattle.gates.proofs.calls.promoted.Tie as tie

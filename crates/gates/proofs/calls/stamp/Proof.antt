@@ -2,8 +2,8 @@ use mathlib.Core.Path.{ap, _∙_}
 use borrow.Author.Needs.{needs}
 use Rattle.rules.specs.Data.{Memory}
 use Rattle.rules.specs.Gates.{memory, store, stamped}
-use Rattle.memories.specs.View.{viewMemory}
-use Rattle.memory_entry.specs.View.{viewGates}
+use Rattle.gates_types.specs.View.{viewMemory}
+use Rattle.gates_entry.specs.View.{viewGates}
 use Rattle.gates.specs.Order.{room-for, memory-peer}
 use Rattle.gates.proofs.calls.stamp.Statement.{statement}
 use Rattle.gates.proofs.calls.stamp.Tie as tie

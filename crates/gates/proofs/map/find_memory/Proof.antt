@@ -3,8 +3,8 @@ use borrow.Author.Needs.{needs}
 use native.Mathlib.Omega.{arith}
 use Rattle.rules.specs.Base.{same}
 use Rattle.rules.specs.Gates.{memoryOf}
-use Rattle.laws.specs.Scan.{scan}
-use Rattle.memory_entry.specs.View.{viewGates}
+use Rattle.lib_laws.specs.Scan.{scan}
+use Rattle.gates_entry.specs.View.{viewGates}
 use Rattle.gates.specs.Walk.{Scanning, scanning-start, scanning-hit, scanning-skip, scanning-end, told-peer}
 use Rattle.gates.proofs.map.find_memory.Statement.{statement}
 use Rattle.gates.proofs.map.find_memory.Tie as tie

@@ -1,5 +1,5 @@
 use borrow.Author.Needs.{needs}
-use Rattle.laws.specs.Store.{chunking}
+use Rattle.lib_laws.specs.Store.{chunking}
 use Rattle.gates.specs.Put.{put-new}
 use Rattle.gates.proofs.map.insert_memory.Statement.{statement}
 use Rattle.gates.proofs.map.insert_memory.Tie as tie

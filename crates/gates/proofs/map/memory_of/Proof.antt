@@ -1,10 +1,10 @@
 use mathlib.Core.Path.{_∙_}
 use borrow.Author.Needs.{needs}
 use Rattle.rules.specs.Gates.{memoryOf}
-use Rattle.laws.specs.Store.{entry-within}
+use Rattle.lib_laws.specs.Store.{entry-within}
 use Rattle.node_addr.specs.View.{finds-at, finds-none}
-use Rattle.memories.specs.View.{fit-blank-memory}
-use Rattle.memory_entry.specs.View.{entryOf, viewGates, noMemory}
+use Rattle.gates_types.specs.View.{fit-blank-memory}
+use Rattle.gates_entry.specs.View.{entryOf, viewGates, noMemory}
 use Rattle.gates.specs.Order.{memory-at, memory-none}
 use Rattle.gates.proofs.map.memory_of.Statement.{statement}
 use Rattle.gates.proofs.map.memory_of.Tie as tie

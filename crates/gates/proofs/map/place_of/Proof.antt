@@ -2,8 +2,8 @@ use Prim.Native.Nat.{_-_}
 use borrow.Author.Needs.{needs}
 use native.Mathlib.Omega.{arith}
 use Rattle.rules.specs.Std.{before}
-use Rattle.laws.specs.Scan.{scan}
-use Rattle.memory_entry.specs.View.{viewGates}
+use Rattle.lib_laws.specs.Scan.{scan}
+use Rattle.gates_entry.specs.View.{viewGates}
 use Rattle.gates.specs.Walk.{Scanning, scanning-start, scanning-at, scanning-skip, scanning-none, told-peer, after, takes-here, takes-end}
 use Rattle.gates.proofs.map.place_of.Statement.{statement}
 use Rattle.gates.proofs.map.place_of.Tie as tie

@@ -1,7 +1,7 @@
 use mathlib.Core.Path.{sym, _∙_}
 use borrow.Author.Needs.{needs}
-use Rattle.laws.specs.Store.{removed-is}
-use Rattle.memory_entry.specs.View.{entryOf, fit-zeros}
+use Rattle.lib_laws.specs.Store.{removed-is}
+use Rattle.gates_entry.specs.View.{entryOf, fit-zeros}
 use Rattle.gates.specs.Put.{put-over}
 use Rattle.gates.proofs.map.replace_memory.Statement.{statement}
 use Rattle.gates.proofs.map.replace_memory.Tie as tie

@@ -1,10 +1,10 @@
 use mathlib.Core.Path.{refl, _∙_}
 use borrow.Author.Needs.{needs}
 use Rattle.rules.specs.Gates.{memoryOf}
-use Rattle.laws.specs.Store.{entry-within}
+use Rattle.lib_laws.specs.Store.{entry-within}
 use Rattle.node_addr.specs.View.{finds-at, finds-none}
-use Rattle.memories.specs.View.{viewMemory}
-use Rattle.memory_entry.specs.View.{entryOf, viewGates}
+use Rattle.gates_types.specs.View.{viewMemory}
+use Rattle.gates_entry.specs.View.{entryOf, viewGates}
 use Rattle.gates.specs.Order.{stored-at, stored-new}
 use Rattle.gates.proofs.map.store_memory.Statement.{statement}
 use Rattle.gates.proofs.map.store_memory.Tie as tie

@@ -1,5 +1,5 @@
 use Rattle.held.specs.Change.{last-changed}
-use Rattle.laws.specs.Splice.{wrote-then}
+use Rattle.lib_laws.specs.Splice.{wrote-then}
 use borrow.Author.Needs.{needs}
 use Rattle.held.proofs.change.set_last.Statement.{statement}
 use Rattle.held.proofs.change.set_last.Tie as tie

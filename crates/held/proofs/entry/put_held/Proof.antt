@@ -1,5 +1,5 @@
 use Rattle.held.specs.Entry.{put-held-is}
-use Rattle.laws.specs.Splice.{wrote-then}
+use Rattle.lib_laws.specs.Splice.{wrote-then}
 use borrow.Author.Needs.{needs}
 use Rattle.held.proofs.entry.put_held.Statement.{statement}
 use Rattle.held.proofs.entry.put_held.Tie as tie

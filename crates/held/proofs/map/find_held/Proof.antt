@@ -3,7 +3,7 @@ use Rattle.held.specs.At.{named-here}
 use Rattle.held.specs.View.{viewHeld}
 use Rattle.node_addr.specs.View.{finds-some, finds-no}
 use Rattle.rules.specs.Settle.{named}
-use Rattle.laws.specs.Scan.{scan}
+use Rattle.lib_laws.specs.Scan.{scan}
 use Prim.Native.Nat.{_-_}
 use borrow.Author.Needs.{needs}
 use native.Mathlib.Omega.{arith}

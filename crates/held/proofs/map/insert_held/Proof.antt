@@ -1,7 +1,7 @@
 use Rattle.held.specs.Walk.{slot-insert}
 use Rattle.held.specs.Entry.{fit-bytes, held-bytes}
 use Rattle.held.specs.View.{heldOf, viewRec}
-use Rattle.laws.specs.Store.{inserted-is}
+use Rattle.lib_laws.specs.Store.{inserted-is}
 use borrow.Author.Needs.{needs}
 use mathlib.Core.Path.{sym, _∙_}
 use Rattle.held.proofs.map.insert_held.Statement.{statement}

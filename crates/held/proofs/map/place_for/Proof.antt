@@ -1,7 +1,7 @@
 use Rattle.held.specs.Walk.{Scanning, scanning-start, scanning-skip, slot-before, slot-last}
 use Rattle.held.specs.At.{precedes, precedes-here}
 use Rattle.held.specs.View.{viewHeld}
-use Rattle.laws.specs.Scan.{scan}
+use Rattle.lib_laws.specs.Scan.{scan}
 use Prim.Native.Nat.{_-_}
 use borrow.Author.Needs.{needs}
 use native.Mathlib.Omega.{arith}

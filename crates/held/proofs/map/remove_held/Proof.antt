@@ -1,5 +1,5 @@
 use Rattle.held.specs.View.{heldOf, fit-zeros}
-use Rattle.laws.specs.Store.{removed-is}
+use Rattle.lib_laws.specs.Store.{removed-is}
 use borrow.Author.Needs.{needs}
 use Rattle.held.proofs.map.remove_held.Statement.{statement}
 use Rattle.held.proofs.map.remove_held.Tie as tie

@@ -1,5 +1,5 @@
 -- `legs::change::next_resend` meets its contract.
-use Rattle.leg_entry.specs.Start.{due-there, due-none}
+use Rattle.legs_entry.specs.Start.{due-there, due-none}
 use Rattle.rules.specs.Time.{deadline, backoff}
 use Rattle.rules.specs.Std.{fromNanos, durationMax}
 use borrow.Author.Needs.{needs}

@@ -1,5 +1,5 @@
 -- `legs::change::put_again` meets its contract.
-use Rattle.laws.specs.Splice.{wrote-then}
+use Rattle.lib_laws.specs.Splice.{wrote-then}
 use borrow.Author.Needs.{needs}
 use Rattle.legs.proofs.change.put_again.Statement.{statement}
 use Rattle.legs.proofs.change.put_again.Tie as tie

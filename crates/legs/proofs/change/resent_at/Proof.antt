@@ -1,8 +1,8 @@
 -- `legs::change::resent_at` meets its contract.
-use Rattle.leg_entry.specs.Start.{resent-is}
+use Rattle.legs_entry.specs.Start.{resent-is}
 use Rattle.legs.specs.Change.{set-again}
-use Rattle.leg_entry.specs.At.{sent-here}
-use Rattle.leg_entry.specs.View.{viewLegs, legAt}
+use Rattle.legs_entry.specs.At.{sent-here}
+use Rattle.legs_entry.specs.View.{viewLegs, legAt}
 use Rattle.params.specs.View.{viewParams}
 use Rattle.rules.specs.Data.{Leg}
 use Rattle.rules.specs.Std.{saturatingAdd}

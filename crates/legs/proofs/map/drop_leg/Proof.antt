@@ -1,9 +1,9 @@
 -- `legs::map::drop_leg` meets its contract.
-use Rattle.leg_entry.specs.View.{legOf}
+use Rattle.legs_entry.specs.View.{legOf}
 use Rattle.node_addr.specs.View.{finds-at, finds-none}
 use Rattle.rules.specs.Legs.{onLink}
-use Rattle.laws.specs.Place.{without-at, without-nowhere}
-use Rattle.laws.specs.Scan.{scan-within}
+use Rattle.lib_laws.specs.Place.{without-at, without-nowhere}
+use Rattle.lib_laws.specs.Scan.{scan-within}
 use native.Mathlib.Omega.{arith}
 use mathlib.Core.Path.{_∙_, sym}
 use borrow.Author.Needs.{needs}

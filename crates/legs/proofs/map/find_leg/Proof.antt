@@ -1,7 +1,7 @@
 -- `legs::map::find_leg` meets its contract.
 use Rattle.legs.specs.Walk.{Scanning, scanning-start, scanning-hit, scanning-skip, scanning-end}
-use Rattle.leg_entry.specs.View.{viewLegs}
-use Rattle.laws.specs.Scan.{scan}
+use Rattle.legs_entry.specs.View.{viewLegs}
+use Rattle.lib_laws.specs.Scan.{scan}
 use Rattle.rules.specs.Legs.{onLink}
 use borrow.Author.Tests.{eq-eqb, ne-eqb}
 use mathlib.Core.Path.{_∙_, sym}

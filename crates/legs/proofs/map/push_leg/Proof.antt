@@ -1,7 +1,7 @@
 -- `legs::map::push_leg` meets its contract.
-use Rattle.leg_entry.specs.Entry.{fit-bytes, leg-bytes}
-use Rattle.leg_entry.specs.View.{legOf}
-use Rattle.laws.specs.Store.{pushed-is}
+use Rattle.legs_entry.specs.Entry.{fit-bytes, leg-bytes}
+use Rattle.legs_entry.specs.View.{legOf}
+use Rattle.lib_laws.specs.Store.{pushed-is}
 use borrow.Author.Needs.{needs}
 use Rattle.legs.proofs.map.push_leg.Statement.{statement}
 use Rattle.legs.proofs.map.push_leg.Tie as tie

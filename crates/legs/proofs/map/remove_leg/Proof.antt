@@ -1,6 +1,6 @@
 -- `legs::map::remove_leg` meets its contract.
-use Rattle.leg_entry.specs.View.{legOf, fit-zeros}
-use Rattle.laws.specs.Store.{removed-is}
+use Rattle.legs_entry.specs.View.{legOf, fit-zeros}
+use Rattle.lib_laws.specs.Store.{removed-is}
 use borrow.Author.Needs.{needs}
 use Rattle.legs.proofs.map.remove_leg.Statement.{statement}
 use Rattle.legs.proofs.map.remove_leg.Tie as tie

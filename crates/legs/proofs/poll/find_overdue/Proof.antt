@@ -1,8 +1,8 @@
 -- `legs::poll::find_overdue` meets its contract.
-use Rattle.leg_entry.specs.View.{legAt, viewLegs}
+use Rattle.legs_entry.specs.View.{legAt, viewLegs}
 use Rattle.legs.specs.Walk.{Scanning, scanning-start, scanning-hit, scanning-skip, scanning-end}
-use Rattle.leg_entry.specs.At.{pastDeadline, past-yes, past-no}
-use Rattle.laws.specs.Scan.{scan}
+use Rattle.legs_entry.specs.At.{pastDeadline, past-yes, past-no}
+use Rattle.lib_laws.specs.Scan.{scan}
 use Prim.Native.Nat.{_-_}
 use borrow.Author.Needs.{needs}
 use Rattle.legs.proofs.poll.find_overdue.Statement.{statement}

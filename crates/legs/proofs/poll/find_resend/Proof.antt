@@ -1,8 +1,8 @@
 -- `legs::poll::find_resend` meets its contract.
 use Rattle.legs.specs.Walk.{Scanning, scanning-start, scanning-hit, scanning-skip, scanning-end}
-use Rattle.leg_entry.specs.At.{resendDue}
-use Rattle.leg_entry.specs.View.{viewLegs}
-use Rattle.laws.specs.Scan.{scan}
+use Rattle.legs_entry.specs.At.{resendDue}
+use Rattle.legs_entry.specs.View.{viewLegs}
+use Rattle.lib_laws.specs.Scan.{scan}
 use lib.ListN.{drop}
 use mathlib.Core.Path.{_∙_, sym}
 use Prim.Native.Nat.{_-_}

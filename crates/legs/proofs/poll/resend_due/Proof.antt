@@ -1,6 +1,6 @@
 -- `legs::poll::resend_due` meets its contract.
-use Rattle.leg_entry.specs.View.{legAt}
-use Rattle.leg_entry.specs.At.{off, on, not-due, due-is}
+use Rattle.legs_entry.specs.View.{legAt}
+use Rattle.legs_entry.specs.At.{off, on, not-due, due-is}
 use borrow.Author.Needs.{needs}
 use Rattle.legs.proofs.poll.resend_due.Statement.{statement}
 use Rattle.legs.proofs.poll.resend_due.Tie as tie

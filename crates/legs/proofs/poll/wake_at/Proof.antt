@@ -1,5 +1,5 @@
 -- `legs::poll::wake_at` meets its contract.
-use Rattle.leg_entry.specs.At.{off, on, wake-untimed, wake-resend, wake-deadline}
+use Rattle.legs_entry.specs.At.{off, on, wake-untimed, wake-resend, wake-deadline}
 use borrow.Author.Needs.{needs}
 use Rattle.legs.proofs.poll.wake_at.Statement.{statement}
 use Rattle.legs.proofs.poll.wake_at.Tie as tie

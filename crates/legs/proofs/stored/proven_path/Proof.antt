@@ -1,5 +1,5 @@
 -- `legs::stored::proven_path` meets its contract.
-use Rattle.link_entry.specs.Here.{pathing}
+use Rattle.links_entry.specs.Here.{pathing}
 use Rattle.legs.proofs.stored.proven_path.Statement.{statement}
 use Rattle.legs.proofs.stored.proven_path.Tie as tie
 

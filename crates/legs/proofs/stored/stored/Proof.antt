@@ -1,8 +1,8 @@
 -- `legs::stored::stored` meets its contract.
 use Rattle.legs.specs.Addresses.{linkAt, links-count}
 use Rattle.legs.specs.Stored.{yieldOf, reach, Reaching, reaching-start, reaching-in, reaching-hit, reaching-skip, reaching-end, Looking, looking-start, looking-hit, looking-skip, looking-end, looking-none, tells-no}
-use Rattle.leg_entry.specs.View.{viewLegs}
-use Rattle.link_entry.specs.View.{viewLinks, noLink}
+use Rattle.legs_entry.specs.View.{viewLegs}
+use Rattle.links_entry.specs.View.{viewLinks, noLink}
 use Rattle.node_addr.specs.declared.Found.the-variants as foundv
 use Rattle.node_addr.specs.Place.{pairHere}
 use Rattle.rules.specs.Settle.{storedOn, storedIn}

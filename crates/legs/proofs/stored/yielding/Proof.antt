@@ -1,6 +1,6 @@
 -- `legs::stored::yielding` meets its contract.
 use Rattle.legs.specs.Stored.{found-within, yields-none, yields-not, yields-at}
-use Rattle.leg_entry.specs.At.{off, on}
+use Rattle.legs_entry.specs.At.{off, on}
 use Rattle.node_addr.specs.View.{finds-at, finds-none}
 use mathlib.Core.List.{[]}
 use borrow.Author.Needs.{needs}

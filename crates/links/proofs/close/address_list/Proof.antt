@@ -1,14 +1,14 @@
 -- `links::close::address_list` meets its contract.
 use Prim.Native.Nat.{_-_}
-use Rattle.laws.specs.Shift.{fit-at}
+use Rattle.lib_laws.specs.Shift.{fit-at}
 use Rattle.links.specs.Close.{Listing, listing-end, listing-start, listing-turn}
-use Rattle.link_entry.specs.View.{viewLink, viewPath}
+use Rattle.links_entry.specs.View.{viewLink, viewPath}
 use Rattle.node_addr.specs.View.{viewPair}
 use Rattle.rules.specs.Links.{addresses}
 use borrow.Author.Needs.{needs}
 use mathlib.Core.Path.{_∙_}
 use native.Mathlib.Omega.{arith}
-use Rattle.link_entry.specs.declared.record.Path as path
+use Rattle.links_entry.specs.declared.record.Path as path
 use Rattle.links.proofs.close.address_list.Statement.{statement}
 use Rattle.links.proofs.close.address_list.Tie as tie
 

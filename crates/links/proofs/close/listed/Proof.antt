@@ -1,7 +1,7 @@
 -- `links::close::listed` meets its contract.
 use Prim.Native.Nat.{_-_}
-use Rattle.laws.specs.Shift.{fit-at}
-use Rattle.link_entry.specs.Asking.{Asking, ask-hit, ask-skip, ask-start, asking}
+use Rattle.lib_laws.specs.Shift.{fit-at}
+use Rattle.links_entry.specs.Asking.{Asking, ask-hit, ask-skip, ask-start, asking}
 use Rattle.links.specs.View.{viewCloses}
 use Rattle.node_addr.specs.View.{viewPair}
 use Rattle.rules.specs.Base.{any}

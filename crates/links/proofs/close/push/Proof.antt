@@ -1,5 +1,5 @@
 -- `links::close::push` meets its contract.
-use Rattle.laws.specs.Shift.{pushed}
+use Rattle.lib_laws.specs.Shift.{pushed}
 use Rattle.node_addr.specs.View.{viewPair}
 use borrow.Author.Needs.{needs}
 use mathlib.Core.Path.{refl}

@@ -1,8 +1,8 @@
 -- `links::close::release` meets its contract.
-use Rattle.laws.specs.Store.{entry-within}
+use Rattle.lib_laws.specs.Store.{entry-within}
 use Rattle.links.specs.Change.{release-done, release-none}
 use Rattle.links.specs.Close.{releasing-is, releasing-kept, releasing-none}
-use Rattle.link_entry.specs.View.{linkOf}
+use Rattle.links_entry.specs.View.{linkOf}
 use Rattle.node_addr.specs.View.{finds-at, finds-none, viewPair}
 use borrow.Author.Needs.{needs}
 use Rattle.links.proofs.close.release.Statement.{statement}

@@ -1,9 +1,9 @@
 -- `links::close::retire` meets its contract.
-use Rattle.laws.specs.Shift.{gone}
-use Rattle.laws.specs.Store.{entry-within}
+use Rattle.lib_laws.specs.Shift.{gone}
+use Rattle.lib_laws.specs.Store.{entry-within}
 use Rattle.links.specs.Change.{drop-done, drop-none}
 use Rattle.links.specs.Close.{retiring-is, retiring-none}
-use Rattle.link_entry.specs.View.{linkOf}
+use Rattle.links_entry.specs.View.{linkOf}
 use Rattle.node_addr.specs.View.{finds-at, finds-none}
 use Rattle.rules.specs.Links.{addresses}
 use borrow.Author.Needs.{needs}

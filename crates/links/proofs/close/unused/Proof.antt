@@ -1,8 +1,8 @@
 -- `links::close::unused` meets its contract.
 use Prim.Native.Nat.{_-_}
-use Rattle.laws.specs.Shift.{fit-at}
+use Rattle.lib_laws.specs.Shift.{fit-at}
 use Rattle.links.specs.Close.{Picking, picking-end, picking-start, picking-turn}
-use Rattle.link_entry.specs.View.{viewLinks}
+use Rattle.links_entry.specs.View.{viewLinks}
 use Rattle.links.specs.View.{viewCloses}
 use Rattle.node_addr.specs.View.{viewPair}
 use Rattle.rules.specs.Base.{keep}

@@ -1,6 +1,6 @@
 -- `links::write::cut_at` meets its contract.
 use Rattle.links.specs.Change.{paths-are}
-use Rattle.link_entry.specs.Here.{paths-lent}
+use Rattle.links_entry.specs.Here.{paths-lent}
 use Rattle.node_addr.specs.View.{viewPair}
 use Rattle.rules.specs.Base.{keep}
 use Rattle.rules.specs.Links.{pathAt}

@@ -1,7 +1,7 @@
 -- `links::write::drop_link` meets its contract.
-use Rattle.laws.specs.Store.{entry-within}
+use Rattle.lib_laws.specs.Store.{entry-within}
 use Rattle.links.specs.Change.{drop-done, drop-none}
-use Rattle.link_entry.specs.View.{linkOf}
+use Rattle.links_entry.specs.View.{linkOf}
 use Rattle.node_addr.specs.View.{finds-at, finds-none}
 use borrow.Author.Needs.{needs}
 use Rattle.links.proofs.write.drop_link.Statement.{statement}

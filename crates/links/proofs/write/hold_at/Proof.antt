@@ -1,5 +1,5 @@
 -- `links::write::hold_at` meets its contract.
-use Rattle.laws.specs.Splice.{wrote-then}
+use Rattle.lib_laws.specs.Splice.{wrote-then}
 use Rattle.links.specs.Change.{held-is}
 use borrow.Author.Needs.{needs}
 use Rattle.links.proofs.write.hold_at.Statement.{statement}

@@ -1,7 +1,7 @@
 -- `links::write::hold_link` meets its contract.
-use Rattle.laws.specs.Store.{entry-within}
+use Rattle.lib_laws.specs.Store.{entry-within}
 use Rattle.links.specs.Change.{hold-done, hold-none}
-use Rattle.link_entry.specs.View.{linkOf}
+use Rattle.links_entry.specs.View.{linkOf}
 use Rattle.node_addr.specs.View.{finds-at, finds-none}
 use borrow.Author.Needs.{needs}
 use Rattle.links.proofs.write.hold_link.Statement.{statement}

@@ -1,8 +1,8 @@
 -- `links::write::open_link` meets its contract.
-use Rattle.laws.specs.Splice.{wrote-then}
-use Rattle.laws.specs.Store.{pushed-is}
+use Rattle.lib_laws.specs.Splice.{wrote-then}
+use Rattle.lib_laws.specs.Store.{pushed-is}
 use Rattle.links.specs.Change.{opened-fit, opened-shows}
-use Rattle.link_entry.specs.View.{linkOf, viewDir}
+use Rattle.links_entry.specs.View.{linkOf, viewDir}
 use borrow.Author.Needs.{needs}
 use lib.ListN.{length-set}
 use native.Mathlib.Omega.{arith}

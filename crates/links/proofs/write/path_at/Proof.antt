@@ -1,7 +1,7 @@
 -- `links::write::path_at` meets its contract.
 use Rattle.links.specs.Change.{paths-are}
-use Rattle.link_entry.specs.Here.{paths-lent, paths-show}
-use Rattle.link_entry.specs.View.{full, viewProven}
+use Rattle.links_entry.specs.Here.{paths-lent, paths-show}
+use Rattle.links_entry.specs.View.{full, viewProven}
 use Rattle.node_addr.specs.View.{viewPair}
 use Rattle.rules.specs.Links.{setPath}
 use borrow.Author.Needs.{needs}

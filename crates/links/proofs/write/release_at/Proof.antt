@@ -1,7 +1,7 @@
 -- `links::write::release_at` meets its contract.
-use Rattle.laws.specs.Store.{entries-count}
+use Rattle.lib_laws.specs.Store.{entries-count}
 use Rattle.links.specs.Change.{place-left, released-both}
-use Rattle.link_entry.specs.View.{linkOf, viewLinks}
+use Rattle.links_entry.specs.View.{linkOf, viewLinks}
 use Rattle.node_addr.specs.View.{viewPair}
 use borrow.Author.Needs.{needs}
 use Rattle.links.proofs.write.release_at.Statement.{statement}

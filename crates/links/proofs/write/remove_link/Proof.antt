@@ -1,7 +1,7 @@
 -- `links::write::remove_link` meets its contract.
-use Rattle.laws.specs.Store.{removed-is}
-use Rattle.link_entry.specs.View.{linkOf}
-use Rattle.link_entry.specs.Zeros.{link-zeros}
+use Rattle.lib_laws.specs.Store.{removed-is}
+use Rattle.links_entry.specs.View.{linkOf}
+use Rattle.links_entry.specs.Zeros.{link-zeros}
 use borrow.Author.Needs.{needs}
 use Rattle.links.proofs.write.remove_link.Statement.{statement}
 use Rattle.links.proofs.write.remove_link.Tie as tie

@@ -1,8 +1,8 @@
 -- `links::write::set_path` meets its contract.
-use Rattle.laws.specs.Store.{entry-within}
-use Rattle.link_entry.specs.Paths.{uncrowded}
+use Rattle.lib_laws.specs.Store.{entry-within}
+use Rattle.links_entry.specs.Paths.{uncrowded}
 use Rattle.links.specs.Change.{path-done, path-none}
-use Rattle.link_entry.specs.View.{linkOf}
+use Rattle.links_entry.specs.View.{linkOf}
 use Rattle.node_addr.specs.View.{finds-at, finds-none}
 use borrow.Author.Needs.{needs}
 use Rattle.links.proofs.write.set_path.Statement.{statement}

@@ -1,7 +1,7 @@
 -- `node_addr::run::same_16` meets its contract.
 use native.Mathlib.Omega.{arith}
 use mathlib.Core.Path.{sym, _∙_}
-use Rattle.laws.specs.Little.{first-stop, first-on, word-last}
+use Rattle.lib_laws.specs.Little.{first-stop, first-on, word-last}
 use borrow.Author.Needs.{needs}
 use Rattle.node_addr.proofs.run.same_16.Statement.{statement}
 use Rattle.node_addr.proofs.run.same_16.Tie as tie

@@ -1,5 +1,5 @@
 -- `params::head::put_counts` meets its contract.
-use Rattle.laws.specs.Splice.{wrote-then}
+use Rattle.lib_laws.specs.Splice.{wrote-then}
 use borrow.Author.Needs.{needs}
 use Rattle.params.proofs.head.put_counts.Statement.{statement}
 use Rattle.params.proofs.head.put_counts.Tie as tie

@@ -1,5 +1,5 @@
 -- `params::head::put_params` meets its contract.
-use Rattle.laws.specs.Splice.{wrote-then}
+use Rattle.lib_laws.specs.Splice.{wrote-then}
 use Rattle.params.specs.Head.{settings-written, params-written, shows-fit}
 use borrow.Author.Needs.{needs}
 use Rattle.params.proofs.head.put_params.Statement.{statement}

@@ -1,5 +1,5 @@
 -- `params::head::put_spans` meets its contract.
-use Rattle.laws.specs.Splice.{wrote-then}
+use Rattle.lib_laws.specs.Splice.{wrote-then}
 use borrow.Author.Needs.{needs}
 use Rattle.params.proofs.head.put_spans.Statement.{statement}
 use Rattle.params.proofs.head.put_spans.Tie as tie

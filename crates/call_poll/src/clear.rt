@@ -1,0 +1,17 @@
+// All legs at once. The offsets are those of crate state.
+use lib_bytes::write::clear;
+use table_legs::leg_count;
+ghost use mathlib.Core.List.{[]};
+ghost use Rattle.rules.specs.Settle as settle;
+ghost use Rattle.table_layout.specs.View.{viewTable, FitTable, Told};
+
+// No legs are left.
+pub fn clear_legs(t: &mut [u8])
+    requires { ⌜ FitTable (now t) ⌝ }
+    ensures { λ r. ⌜ Told (now (t .exit)) (settle.withLegs [] (viewTable (now (t .entry)))) ⌝ }
+{
+    if leg_count(t) == 0 {
+        return;
+    }
+    clear(&mut t[9603..20836], 0, 11233);
+}

@@ -1,0 +1,114 @@
+// One call on the table: the step of its kind.
+pub mod asks;
+pub mod dials;
+pub mod paths;
+pub mod peers;
+pub mod times;
+
+use crate::asks::arrived_call;
+use crate::asks::msg1_call;
+use crate::asks::replacement_call;
+use crate::dials::abandon_call;
+use crate::dials::dial_call;
+use crate::dials::msg2_call;
+use crate::dials::sent_call;
+use crate::dials::unsent_call;
+use crate::paths::path_call;
+use crate::paths::release_call;
+use crate::peers::heard_call;
+use crate::peers::remove_call;
+use crate::peers::restarted_call;
+use crate::times::close_call;
+use crate::times::poll_call;
+use crate::times::wake_call;
+use call_contract::Answer;
+ghost use mathlib.Core.Path.{_≡_};
+ghost use Prim.Native.Nat.{_≤_, _<_};
+ghost use Rattle.input_hello.specs.Read.{kindFields};
+ghost use Rattle.call_step.specs.Ask.{Asked, Answers};
+
+// Kinds 0 to 5.
+fn first_kinds(t: &mut [u8], out: &mut [u8], s: &[u8], at: usize, kind: u8, clock: u64) -> Answer
+    requires { ⌜ Asked (kindFields kind) clock at (now s) (now t) (now out) ⌝ }
+    requires { ⌜ kind < 6 ⌝ }
+    ensures { λ r. ⌜ Answers (kindFields kind) clock at (now (s .entry)) (now (t .entry)) (now (out .entry)) (now (t .exit)) (now (out .exit)) (r .number) (r .len) ⌝ }
+{
+    if kind == 1 {
+        return dial_call(t, out, s, at, clock);
+    }
+    if kind == 2 {
+        return abandon_call(t, out, s, at, clock);
+    }
+    if kind == 3 {
+        return arrived_call(t, out, s, at, clock);
+    }
+    if kind == 4 {
+        return msg1_call(t, out, s, at, clock);
+    }
+    if kind == 5 {
+        return replacement_call(t, out, s, at, clock);
+    }
+    Answer { number: 3, len: 0 }
+}
+
+// Kinds 6 to 9.
+fn middle_kinds(t: &mut [u8], out: &mut [u8], s: &[u8], at: usize, kind: u8, clock: u64) -> Answer
+    requires { ⌜ Asked (kindFields kind) clock at (now s) (now t) (now out) ⌝ }
+    requires { ⌜ (6 ≤ kind) × (kind < 10) ⌝ }
+    ensures { λ r. ⌜ Answers (kindFields kind) clock at (now (s .entry)) (now (t .entry)) (now (out .entry)) (now (t .exit)) (now (out .exit)) (r .number) (r .len) ⌝ }
+{
+    if kind == 6 {
+        return sent_call(t, out, s, at, clock);
+    }
+    if kind == 7 {
+        return unsent_call(t, out, s, at, clock);
+    }
+    if kind == 8 {
+        return msg2_call(t, out, s, at, clock);
+    }
+    restarted_call(t, out, s, at, clock)
+}
+
+// Kinds 11 and from 13 on.
+fn last_kinds(t: &mut [u8], out: &mut [u8], s: &[u8], at: usize, kind: u8, clock: u64) -> Answer
+    requires { ⌜ Asked (kindFields kind) clock at (now s) (now t) (now out) ⌝ }
+    requires { ⌜ (10 < kind) × (kind ≡ 12 → ⊥) ⌝ }
+    ensures { λ r. ⌜ Answers (kindFields kind) clock at (now (s .entry)) (now (t .entry)) (now (out .entry)) (now (t .exit)) (now (out .exit)) (r .number) (r .len) ⌝ }
+{
+    if kind == 11 {
+        return remove_call(t, out, s, at, clock);
+    }
+    if kind == 13 {
+        return close_call(t, out, s, at, clock);
+    }
+    if kind == 14 {
+        return path_call(t, out, s, at, clock);
+    }
+    if kind == 15 {
+        return release_call(t, out, s, at, clock);
+    }
+    if kind == 16 {
+        return wake_call(t, out, s, at, clock);
+    }
+    Answer { number: 3, len: 0 }
+}
+
+// The step of a call, whose fields stand in the record from `at` on; its outputs begin at the buffer's start. Heard and poll come first, since a box makes them most.
+pub fn step(t: &mut [u8], out: &mut [u8], s: &[u8], at: usize, kind: u8, clock: u64) -> Answer
+    requires { ⌜ Asked (kindFields kind) clock at (now s) (now t) (now out) ⌝ }
+    ensures { λ r. ⌜ Answers (kindFields kind) clock at (now (s .entry)) (now (t .entry)) (now (out .entry)) (now (t .exit)) (now (out .exit)) (r .number) (r .len) ⌝ }
+{
+    if kind == 10 {
+        return heard_call(t, out, s, at, clock);
+    }
+    if kind == 12 {
+        return poll_call(t, out, s, at, clock);
+    }
+    if kind < 6 {
+        return first_kinds(t, out, s, at, kind, clock);
+    }
+    if kind < 10 {
+        return middle_kinds(t, out, s, at, kind, clock);
+    }
+    last_kinds(t, out, s, at, kind, clock)
+}

@@ -1,7 +1,0 @@
-use Rattle.fields.specs.Told.{telling}
-use borrow.Author.Needs.{needs}
-use Rattle.fields.proofs.read_byte.Statement.{statement}
-use Rattle.fields.proofs.read_byte.Tie as tie
-
-pub read-byte-spec : {M : Type 1} → statement M
-read-byte-spec = tie.close (tie.spec (λ c. search telling) (λ c κs. search needs) (λ c. search telling))

@@ -1,0 +1,108 @@
+-- What the bytes of an entry and of a region show, and their canonical form.
+use mathlib.Core.Path.{_≡_, refl}
+use mathlib.Core.Bool.{false}
+use mathlib.Core.Option.{none, some}
+use mathlib.Core.List.{List, [], _∷_}
+use Prim.Native.Nat.{ℕ}
+use lib.Dec.{lit<}
+use lib.ListN.{take, drop, getD, replicate}
+use Rattle.rules.specs.Base.{if_then_else_, Bytes}
+use Rattle.rules.specs.Data.{Replay, Silence, Memory}
+use Rattle.lib_laws.specs.Cell.{num, flagOf, optionNum, Code, Optional}
+use Rattle.lib_laws.specs.Fields.{cuts}
+use Rattle.lib_laws.specs.Store.{Store, entries, store-zeros}
+use Rattle.gates_entry.specs.Rows.{AnyBytes}
+
+-- the k-th cell
+abbrev pub cell : List Bytes → ℕ → Bytes
+cell fs k = getD fs k []
+
+-- ---- a replay, 40 bytes: digest, seen
+abbrev pub replayOf : Bytes → Replay
+replayOf c = record { ephemeral = take 32 c; seen = num (take 8 (drop 32 c)) }
+
+abbrev pub digestOf : Bytes → Bytes
+digestOf c = c
+
+-- ---- a silence, 287 bytes: known, epoch, count, last, refusing, until, the counted digests
+abbrev pub silenceWs : List ℕ
+silenceWs = 1 ∷ 8 ∷ 4 ∷ 8 ∷ 1 ∷ 8 ∷ 257 ∷ []
+
+abbrev pub silenceFrom : List Bytes → Silence
+silenceFrom fs = record {
+  epoch = optionNum (cell fs 0) (cell fs 1);
+  count = num (cell fs 2);
+  last = num (cell fs 3);
+  until = optionNum (cell fs 4) (cell fs 5);
+  counted = entries digestOf 32 8 (cell fs 6);
+}
+
+unfoldable pub silenceOf : Bytes → Silence
+silenceOf c = silenceFrom (cuts 0 0 silenceWs c)
+
+pub record SilenceCells (fs : List Bytes) : Type 0 where
+  pub epoch : Optional 8 (cell fs 0) (cell fs 1)
+  pub until : Optional 8 (cell fs 4) (cell fs 5)
+  pub counted : Store AnyBytes 32 8 (cell fs 6)
+
+-- the canonical form: flags 0 or 1, zeros past the count and for what is absent
+pub record FitSilenceCell (c : Bytes) : Type 0 where
+  pub cells : SilenceCells (cuts 0 0 silenceWs c)
+
+-- ---- an entry: peer, stamped, stamp, silent, the silence, the replays
+abbrev pub entryWs : List ℕ
+entryWs = 16 ∷ 1 ∷ 8 ∷ 1 ∷ 287 ∷ 321 ∷ []
+
+abbrev pub entryFrom : List Bytes → Memory
+entryFrom fs = record {
+  peer = cell fs 0;
+  stamp = optionNum (cell fs 1) (cell fs 2);
+  replays = entries replayOf 40 8 (cell fs 5);
+  silence = if flagOf (cell fs 3) then some (silenceOf (cell fs 4)) else none;
+}
+
+abbrev pub entryOf : Bytes → Memory
+entryOf c = entryFrom (cuts 0 0 entryWs c)
+
+pub record FitCells (fs : List Bytes) : Type 0 where
+  pub stamp : Optional 8 (cell fs 1) (cell fs 2)
+  pub silent : Code 2 (cell fs 3)
+  pub silence : FitSilenceCell (cell fs 4)
+  pub quiet : flagOf (cell fs 3) ≡ false → cell fs 4 ≡ replicate 287 0
+  pub replays : Store AnyBytes 40 8 (cell fs 5)
+
+abbrev pub FitEntry : Bytes → Type 0
+FitEntry c = FitCells (cuts 0 0 entryWs c)
+
+-- ---- the region
+abbrev pub viewGates : Bytes → List Memory
+viewGates s = entries entryOf 634 32 s
+
+abbrev pub FitGates : Bytes → Type 0
+FitGates s = Store FitEntry 634 32 s
+
+abbrev pub gateCount : Bytes → ℕ
+gateCount s = getD s 20288 0
+
+abbrev pub noMemory : Memory
+noMemory = entryOf (replicate 634 0)
+
+-- the i-th memory
+abbrev pub memoryAt : Bytes → ℕ → Memory
+memoryAt s i = getD (viewGates s) i noMemory
+
+-- ---- zeros
+no-number : Optional 8 (0 ∷ []) (replicate 8 0)
+no-number = record { flag = record { size = refl; low = lit< tt }; size = refl; blank = λ e. refl }
+
+pub fit-zero-silence : FitSilenceCell (replicate 287 0)
+fit-zero-silence = record { cells = record { epoch = no-number; until = no-number; counted = store-zeros AnyBytes 32 8 tt } }
+
+pub fit-zeros : FitEntry (replicate 634 0)
+fit-zeros = record {
+  stamp = no-number;
+  silent = record { size = refl; low = lit< tt };
+  silence = fit-zero-silence;
+  quiet = λ e. refl;
+  replays = store-zeros AnyBytes 40 8 tt;
+}

@@ -1,0 +1,228 @@
+// The judgement of a msg1, from what is remembered of its peer where that stands.
+use gates_types::Liveness;
+use gates_types::Refusal;
+use gates_types::Source;
+use gates_types::Verdict;
+use lib_bytes::flag::get_flag;
+use lib_bytes::read::get_8;
+use lib_region::count;
+use node_addr::Digest;
+use node_addr::place::digest_here;
+use params::Params;
+use params::time::younger;
+ghost use mathlib.Core.Path.{_≡_};
+ghost use mathlib.Core.Bool.{_&&_};
+ghost use mathlib.Core.Option.{none, some};
+ghost use Prim.Native.Nat.{ℕ, _<_};
+ghost use Rattle.rules.specs.Base.{if_then_else_, option, orElse, Bytes};
+ghost use Rattle.rules.specs.Gates as rule;
+ghost use Rattle.node_addr.specs.declared.Digest as digests;
+ghost use Rattle.params.specs.View.{viewParams};
+ghost use Rattle.gates_types.specs.View.{sourceOf, refusedBy, heldOf, asking};
+ghost use Rattle.gates_entry.specs.View.{FitGates, gateCount, memoryAt};
+
+// Whether the silences of the i-th memory refuse a msg1 at an epoch.
+fn silencing(s: &[u8], i: usize, epoch: u64, clock: u64) -> bool
+    requires { ⌜ FitGates (now s) ⌝ }
+    requires { ⌜ i < gateCount (now s) ⌝ }
+    ensures { λ r. ⌜ r ≡ rule.silencing (some epoch) clock (memoryAt (now (s .entry)) i) ⌝ }
+{
+    if !get_flag(s, i * 634 + 25) {
+        return false;
+    }
+    let a = i * 634 + 26;
+    if !get_flag(s, a + 21) {
+        return false;
+    }
+    if get_8(s, a + 22) <= clock {
+        return false;
+    }
+    if !get_flag(s, a) {
+        return true;
+    }
+    get_8(s, a + 1) == epoch
+}
+
+// Whether they refuse what asks.
+fn silenced_for(s: &[u8], i: usize, source: Source, epoch: u64, clock: u64) -> bool
+    requires { ⌜ FitGates (now s) ⌝ }
+    requires { ⌜ i < gateCount (now s) ⌝ }
+    ensures { λ r. ⌜ r ≡ rule.asksSilence (sourceOf source) && rule.silencing (some epoch) clock (memoryAt (now (s .entry)) i) ⌝ }
+{
+    match source {
+        Source::NotHeld => silencing(s, i, epoch, clock),
+        Source::Restart => false,
+        Source::Replacement => silencing(s, i, epoch, clock),
+        Source::OwnMsg2 => false,
+        Source::RekeyMsg2 => false,
+    }
+}
+
+// Whether what asks may be refused for the peering that it would end.
+fn gated(source: Source) -> bool
+    ensures { λ r. ⌜ r ≡ rule.gated (sourceOf source) ⌝ }
+{
+    match source {
+        Source::NotHeld => false,
+        Source::Restart => true,
+        Source::Replacement => true,
+        Source::OwnMsg2 => false,
+        Source::RekeyMsg2 => false,
+    }
+}
+
+// The first refusal of two.
+fn first_of(a: Verdict, b: Verdict) -> Verdict
+    ensures { λ r. ⌜ refusedBy r ≡ orElse (refusedBy a) (refusedBy b) ⌝ }
+{
+    match a {
+        Verdict::Pass => b,
+        Verdict::Refuse(r) => Verdict::Refuse(r),
+    }
+}
+
+// Over the replays of the i-th memory younger than the interval: the digest is among them, or there are as many as may be.
+fn replayed(s: &[u8], i: usize, digest: Digest, clock: u64, c: Params) -> Verdict
+    requires { ⌜ FitGates (now s) ⌝ }
+    requires { ⌜ i < gateCount (now s) ⌝ }
+    ensures { λ r. ⌜ refusedBy r ≡ rule.replayed (viewParams c) clock (digest .0) (memoryAt (now (s .entry)) i) ⌝ }
+{
+    let at = i * 634 + 313;
+    let n = count(s, at + 320);
+    let mut live: usize = 0;
+    let mut j = 0;
+    while j < n {
+        let e = at + j * 40;
+        if younger(c.interval, clock, get_8(s, e + 32)) {
+            if digest_here(s, e, digest) {
+                return Verdict::Refuse(Refusal::Replayed);
+            }
+            live += 1;
+        }
+        j += 1;
+    }
+    if c.replays as usize <= live {
+        return Verdict::Refuse(Refusal::ReplayFull);
+    }
+    Verdict::Pass
+}
+
+// The same, asked only of a peering that is unheard.
+fn unheard_replayed(
+    s: &[u8],
+    i: usize,
+    l: Liveness,
+    digest: Digest,
+    clock: u64,
+    c: Params,
+) -> Verdict
+    requires { ⌜ FitGates (now s) ⌝ }
+    requires { ⌜ i < gateCount (now s) ⌝ }
+    ensures { λ r. ⌜ refusedBy r ≡ (if l .heard then none else rule.replayed (viewParams c) clock (digest .0) (memoryAt (now (s .entry)) i)) ⌝ }
+{
+    if l.heard {
+        return Verdict::Pass;
+    }
+    replayed(s, i, digest, clock, c)
+}
+
+// When the peering was last alive: its last frame, else its installation.
+fn alive_at(l: Liveness) -> u64
+    ensures { λ r. ⌜ r ≡ option (heldOf l .last) (heldOf l .installed) (λ x. x) ⌝ }
+{
+    if l.dated {
+        return l.last;
+    }
+    l.installed
+}
+
+// The peering is too young to be given up: one heard within the interval, one unheard younger than `unheard`.
+fn young(l: Liveness, clock: u64, c: Params) -> Verdict
+    ensures { λ r. ⌜ refusedBy r ≡ rule.young (viewParams c) clock (heldOf l) ⌝ }
+{
+    if l.heard {
+        let from = alive_at(l);
+        if younger(c.interval, clock, from) {
+            return Verdict::Refuse(Refusal::Heard);
+        }
+        return Verdict::Pass;
+    }
+    if younger(c.unheard, clock, l.installed) {
+        return Verdict::Refuse(Refusal::Unheard);
+    }
+    Verdict::Pass
+}
+
+// A heard peering was given up within the interval.
+fn dampened(s: &[u8], i: usize, clock: u64, c: Params) -> Verdict
+    requires { ⌜ FitGates (now s) ⌝ }
+    requires { ⌜ i < gateCount (now s) ⌝ }
+    ensures { λ r. ⌜ refusedBy r ≡ rule.dampened (viewParams c) clock (memoryAt (now (s .entry)) i) ⌝ }
+{
+    let a = i * 634;
+    if !get_flag(s, a + 16) {
+        return Verdict::Pass;
+    }
+    if younger(c.interval, clock, get_8(s, a + 17)) {
+        return Verdict::Refuse(Refusal::Dampened);
+    }
+    Verdict::Pass
+}
+
+// The replays, the floors and the dampener, in this order.
+fn judge(s: &[u8], i: usize, l: Liveness, digest: Digest, clock: u64, c: Params) -> Verdict
+    requires { ⌜ FitGates (now s) ⌝ }
+    requires { ⌜ i < gateCount (now s) ⌝ }
+    ensures { λ r. ⌜ refusedBy r ≡ rule.judge (viewParams c) clock (some (digest .0)) (heldOf l) (memoryAt (now (s .entry)) i) ⌝ }
+{
+    let a = unheard_replayed(s, i, l, digest, clock, c);
+    let b = young(l, clock, c);
+    let d = dampened(s, i, clock, c);
+    let e = first_of(b, d);
+    first_of(a, e)
+}
+
+// The judgement of what asks, by the i-th memory.
+pub fn gate(
+    s: &[u8],
+    i: usize,
+    source: Source,
+    l: Liveness,
+    digest: Digest,
+    epoch: u64,
+    clock: u64,
+    c: Params,
+) -> Verdict
+    requires { ⌜ FitGates (now s) ⌝ }
+    requires { ⌜ i < gateCount (now s) ⌝ }
+    ensures { λ r. ⌜ refusedBy r ≡ rule.gate (viewParams c) clock (asking source l digest epoch) (memoryAt (now (s .entry)) i) ⌝ }
+{
+    if silenced_for(s, i, source, epoch, clock) {
+        return Verdict::Refuse(Refusal::Silent);
+    }
+    if !l.held {
+        return Verdict::Pass;
+    }
+    if !gated(source) {
+        return Verdict::Pass;
+    }
+    judge(s, i, l, digest, clock, c)
+}
+
+// The judgement of what asks where nothing is remembered of the peer, whatever the digest and the epoch.
+pub fn gate_blank(source: Source, l: Liveness, clock: u64, c: Params) -> Verdict
+    ensures { λ r. ⌜ ((p : Bytes) (d : digests.Digest) (e : ℕ) → refusedBy r ≡ rule.gate (viewParams c) clock (asking source l d e) (rule.blank p)) ⌝ }
+{
+    if !l.held {
+        return Verdict::Pass;
+    }
+    if !gated(source) {
+        return Verdict::Pass;
+    }
+    if !l.heard {
+        if c.replays == 0 {
+            return Verdict::Refuse(Refusal::ReplayFull);
+        }
+    }
+    young(l, clock, c)
+}

@@ -1,0 +1,159 @@
+// Sessions in a row that ended unheard.
+pub mod counted;
+
+use crate::counted::counted_in;
+use crate::counted::counted_with;
+use gates_types::Digests;
+use gates_types::Silence;
+use gates_types::no_digests;
+use node_addr::Digest;
+use params::Params;
+use params::time::backoff;
+use params::time::deadline;
+ghost use mathlib.Core.Path.{_≡_};
+ghost use mathlib.Core.Bool.{false};
+ghost use mathlib.Core.Option.{some};
+ghost use Prim.Native.Nat.{_≤_};
+ghost use Rattle.rules.specs.Base.{option, any, same};
+ghost use Rattle.rules.specs.Std.{saturatingAdd};
+ghost use Rattle.rules.specs.Gates as rule;
+ghost use Rattle.params.specs.View.{viewParams};
+ghost use Rattle.gates_types.specs.View.{optional, viewDigests, viewSilence, FitDigests, FitSilence, FitParams};
+ghost use Rattle.gates_silence.specs.Silences.{newSilence, endedIn};
+
+// A silence at an epoch with nothing counted.
+fn new_silence(epoch: u64, clock: u64) -> Silence
+    ensures { λ r. ⌜ FitSilence r ⌝ }
+    ensures { λ r. ⌜ viewSilence r ≡ newSilence epoch clock ⌝ }
+    ensures { λ r. ⌜ r .counted .len ≡ 0 ⌝ }
+{
+    let d = no_digests();
+    Silence {
+        known: true,
+        epoch: epoch,
+        count: 0,
+        last: clock,
+        refusing: false,
+        until: 0,
+        counted: d,
+    }
+}
+
+// The end of the refusal, else the last count.
+fn silent_since(s: Silence) -> u64
+    ensures { λ r. ⌜ r ≡ option (viewSilence s .until) (viewSilence s .last) (λ u. u) ⌝ }
+{
+    if s.refusing {
+        return s.until;
+    }
+    s.last
+}
+
+// Whether the horizon has passed.
+pub fn expired(s: Silence, clock: u64, c: Params) -> bool
+    ensures { λ r. ⌜ r ≡ rule.expired (viewParams c) clock (viewSilence s) ⌝ }
+{
+    let from = silent_since(s);
+    let end = deadline(from, c.horizon);
+    end <= clock
+}
+
+// The record that an ending is counted in: the one there (`silent`), or anew.
+pub fn counting(s: Silence, silent: bool, epoch: u64, clock: u64, c: Params) -> Silence
+    requires { ⌜ FitSilence s ⌝ }
+    ensures { λ r. ⌜ FitSilence r ⌝ }
+    ensures { λ r. ⌜ viewSilence r ≡ rule.counting (viewParams c) clock (some epoch) (optional silent (viewSilence s)) ⌝ }
+    ensures { λ r. ⌜ r .counted .len ≤ s .counted .len ⌝ }
+{
+    if !silent {
+        return new_silence(epoch, clock);
+    }
+    if expired(s, clock, c) {
+        return new_silence(epoch, clock);
+    }
+    if !s.known {
+        let mut out = s;
+        out.known = true;
+        out.epoch = epoch;
+        return out;
+    }
+    if s.epoch != epoch {
+        return new_silence(epoch, clock);
+    }
+    s
+}
+
+// One more, up to the greatest.
+fn one_more(count: u32) -> u32
+    ensures { λ r. ⌜ r ≡ saturatingAdd count 1 ⌝ }
+{
+    if count == 4294967295 {
+        return count;
+    }
+    count + 1
+}
+
+// Whether the session's digest was counted already.
+fn already(r: Digests, answered: bool, setup: Digest) -> bool
+    requires { ⌜ FitDigests r ⌝ }
+    ensures { λ x. ⌜ x ≡ option (optional answered (setup .0)) false (λ e. any (same e) (viewDigests r)) ⌝ }
+{
+    if answered {
+        return counted_in(r, setup);
+    }
+    false
+}
+
+// The digests with the session's.
+fn counted_too(r: Digests, answered: bool, setup: Digest, c: Params) -> Digests
+    requires { ⌜ FitDigests r ⌝ }
+    requires { ⌜ FitParams c ⌝ }
+    requires { ⌜ r .len ≤ c .counted ⌝ }
+    ensures { λ x. ⌜ FitDigests x ⌝ }
+    ensures { λ x. ⌜ viewDigests x ≡ rule.countedWith (viewParams c) (optional answered (setup .0)) (viewDigests r) ⌝ }
+{
+    if answered {
+        return counted_with(r, setup, c.counted as usize);
+    }
+    r
+}
+
+// One more silence; from so many on a msg1 is refused for a while.
+fn silenced(s: Silence, answered: bool, setup: Digest, clock: u64, c: Params) -> Silence
+    requires { ⌜ FitSilence s ⌝ }
+    requires { ⌜ FitParams c ⌝ }
+    requires { ⌜ s .counted .len ≤ c .counted ⌝ }
+    ensures { λ r. ⌜ FitSilence r ⌝ }
+    ensures { λ r. ⌜ viewSilence r ≡ rule.silenced (viewParams c) clock (optional answered (setup .0)) (viewSilence s) ⌝ }
+{
+    let held = s.counted;
+    let digests = counted_too(held, answered, setup, c);
+    let n = one_more(s.count);
+    let mut out = s;
+    out.count = n;
+    out.last = clock;
+    out.counted = digests;
+    if n < c.silent {
+        return out;
+    }
+    let span = backoff(n - c.silent, c.silentbase, c.silentcap);
+    let until = deadline(clock, span);
+    out.refusing = true;
+    out.until = until;
+    out
+}
+
+// An ending counted, unless its digest was counted already.
+pub fn ended_in(s: Silence, answered: bool, setup: Digest, clock: u64, c: Params) -> Silence
+    requires { ⌜ FitSilence s ⌝ }
+    requires { ⌜ FitParams c ⌝ }
+    requires { ⌜ s .counted .len ≤ c .counted ⌝ }
+    ensures { λ r. ⌜ FitSilence r ⌝ }
+    ensures { λ r. ⌜ viewSilence r ≡ endedIn (viewParams c) clock (optional answered (setup .0)) (viewSilence s) ⌝ }
+{
+    let held = s.counted;
+    if already(held, answered, setup) {
+        return s;
+    }
+    silenced(s, answered, setup, clock, c)
+}

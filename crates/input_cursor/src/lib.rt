@@ -1,0 +1,404 @@
+// Readers in a row: each is told whether all went well so far and where its field begins, hands the rest of the record to the field's reader, and passes both on.
+use input_field::Span;
+use input_field::message_span;
+use input_field::pair_span;
+use input_field::read_byte;
+use input_field::read_code;
+use input_field::read_digest;
+use input_field::read_flag;
+use input_field::read_lease;
+use input_field::read_message;
+use input_field::read_pair;
+use input_field::read_peer;
+use input_field::read_word;
+use node_addr::Digest;
+use node_addr::Message;
+use node_addr::NodeAddr;
+use node_addr::Pair;
+ghost use mathlib.Core.Path.{_≡_};
+ghost use mathlib.Core.Bool.{true, _&&_};
+ghost use Prim.Native.Nat.{_+_, _≤_, _<_};
+ghost use lib.Dec.{eqb};
+ghost use lib.ListN.{length, drop};
+ghost use Rattle.rules.specs.Field.{number, peer, lease, digest, flag, pair, message};
+ghost use Rattle.lib_laws.specs.Follow.{Stepped};
+ghost use Rattle.node_addr.specs.View.{viewPair, viewMessage, FitPair, FitMessage};
+ghost use Rattle.node_addr.specs.Place.{pairHere, PairIn};
+ghost use Rattle.input_field.specs.Told.{below};
+ghost use Rattle.input_field.specs.Field.{spanOf, FitSpan};
+
+pub struct PeerAt {
+    pub ok: bool,
+    pub value: NodeAddr,
+    pub at: usize,
+}
+
+pub struct DigestAt {
+    pub ok: bool,
+    pub value: Digest,
+    pub at: usize,
+}
+
+pub struct WordAt {
+    pub ok: bool,
+    pub value: u64,
+    pub at: usize,
+}
+
+pub struct LeaseAt {
+    pub ok: bool,
+    pub value: u32,
+    pub at: usize,
+}
+
+pub struct ByteAt {
+    pub ok: bool,
+    pub value: u8,
+    pub at: usize,
+}
+
+pub struct FlagAt {
+    pub ok: bool,
+    pub value: bool,
+    pub at: usize,
+}
+
+pub struct PairAt {
+    pub ok: bool,
+    pub value: Pair,
+    pub at: usize,
+}
+
+pub struct MessageAt {
+    pub ok: bool,
+    pub value: Message,
+    pub at: usize,
+}
+
+pub struct PastAt {
+    pub ok: bool,
+    pub at: usize,
+}
+
+pub struct SpanAt {
+    pub ok: bool,
+    pub value: Span,
+    pub at: usize,
+}
+
+// A node address.
+pub fn peer_at(s: &[u8], ok: bool, at: usize) -> PeerAt
+    requires { ⌜ at ≤ length (now s) ⌝ }
+    ensures { λ r. ⌜ Stepped peer ok at (now (s .entry)) (r .ok) (r .value .0) (r .at) ⌝ }
+{
+    let w = read_peer(&s[at..]);
+    let value = w.value;
+    if !ok {
+        return PeerAt {
+            ok: false,
+            value: value,
+            at: at,
+        };
+    }
+    if !w.ok {
+        return PeerAt {
+            ok: false,
+            value: value,
+            at: at,
+        };
+    }
+    PeerAt {
+        ok: true,
+        value: value,
+        at: at + 16,
+    }
+}
+
+// A digest.
+pub fn digest_at(s: &[u8], ok: bool, at: usize) -> DigestAt
+    requires { ⌜ at ≤ length (now s) ⌝ }
+    ensures { λ r. ⌜ Stepped digest ok at (now (s .entry)) (r .ok) (r .value .0) (r .at) ⌝ }
+{
+    let w = read_digest(&s[at..]);
+    let value = w.value;
+    if !ok {
+        return DigestAt {
+            ok: false,
+            value: value,
+            at: at,
+        };
+    }
+    if !w.ok {
+        return DigestAt {
+            ok: false,
+            value: value,
+            at: at,
+        };
+    }
+    DigestAt {
+        ok: true,
+        value: value,
+        at: at + 32,
+    }
+}
+
+// A number of 8 bytes.
+pub fn word_at(s: &[u8], ok: bool, at: usize) -> WordAt
+    requires { ⌜ at ≤ length (now s) ⌝ }
+    ensures { λ r. ⌜ Stepped (number 8) ok at (now (s .entry)) (r .ok) (r .value) (r .at) ⌝ }
+{
+    let w = read_word(&s[at..]);
+    let value = w.value;
+    if !ok {
+        return WordAt {
+            ok: false,
+            value: value,
+            at: at,
+        };
+    }
+    if !w.ok {
+        return WordAt {
+            ok: false,
+            value: value,
+            at: at,
+        };
+    }
+    WordAt {
+        ok: true,
+        value: value,
+        at: at + 8,
+    }
+}
+
+// A number of 4 bytes.
+pub fn lease_at(s: &[u8], ok: bool, at: usize) -> LeaseAt
+    requires { ⌜ at ≤ length (now s) ⌝ }
+    ensures { λ r. ⌜ Stepped lease ok at (now (s .entry)) (r .ok) (r .value) (r .at) ⌝ }
+{
+    let w = read_lease(&s[at..]);
+    let value = w.value;
+    if !ok {
+        return LeaseAt {
+            ok: false,
+            value: value,
+            at: at,
+        };
+    }
+    if !w.ok {
+        return LeaseAt {
+            ok: false,
+            value: value,
+            at: at,
+        };
+    }
+    LeaseAt {
+        ok: true,
+        value: value,
+        at: at + 4,
+    }
+}
+
+// A byte.
+pub fn byte_at(s: &[u8], ok: bool, at: usize) -> ByteAt
+    requires { ⌜ at ≤ length (now s) ⌝ }
+    ensures { λ r. ⌜ Stepped (number 1) ok at (now (s .entry)) (r .ok) (r .value) (r .at) ⌝ }
+{
+    let w = read_byte(&s[at..]);
+    let value = w.value;
+    if !ok {
+        return ByteAt {
+            ok: false,
+            value: value,
+            at: at,
+        };
+    }
+    if !w.ok {
+        return ByteAt {
+            ok: false,
+            value: value,
+            at: at,
+        };
+    }
+    ByteAt {
+        ok: true,
+        value: value,
+        at: at + 1,
+    }
+}
+
+// A byte below k.
+pub fn code_at(s: &[u8], ok: bool, at: usize, k: u8) -> ByteAt
+    requires { ⌜ 0 < k ⌝ }
+    requires { ⌜ at ≤ length (now s) ⌝ }
+    ensures { λ r. ⌜ Stepped (below k) ok at (now (s .entry)) (r .ok) (r .value) (r .at) ⌝ }
+    ensures { λ r. ⌜ r .value < k ⌝ }
+{
+    let w = read_code(&s[at..], k);
+    let value = w.value;
+    if !ok {
+        return ByteAt {
+            ok: false,
+            value: value,
+            at: at,
+        };
+    }
+    if !w.ok {
+        return ByteAt {
+            ok: false,
+            value: value,
+            at: at,
+        };
+    }
+    ByteAt {
+        ok: true,
+        value: value,
+        at: at + 1,
+    }
+}
+
+// A flag.
+pub fn flag_at(s: &[u8], ok: bool, at: usize) -> FlagAt
+    requires { ⌜ at ≤ length (now s) ⌝ }
+    ensures { λ r. ⌜ Stepped flag ok at (now (s .entry)) (r .ok) (r .value) (r .at) ⌝ }
+{
+    let w = read_flag(&s[at..]);
+    let value = w.value;
+    if !ok {
+        return FlagAt {
+            ok: false,
+            value: value,
+            at: at,
+        };
+    }
+    if !w.ok {
+        return FlagAt {
+            ok: false,
+            value: value,
+            at: at,
+        };
+    }
+    FlagAt {
+        ok: true,
+        value: value,
+        at: at + 1,
+    }
+}
+
+// A pair.
+pub fn pair_at(s: &[u8], ok: bool, at: usize) -> PairAt
+    requires { ⌜ at ≤ length (now s) ⌝ }
+    ensures { λ r. ⌜ Stepped pair ok at (now (s .entry)) (r .ok) (viewPair (r .value)) (r .at) ⌝ }
+    ensures { λ r. ⌜ FitPair (r .value) ⌝ }
+{
+    let w = read_pair(&s[at..]);
+    let value = w.value;
+    let n = value.addr.len;
+    if !ok {
+        return PairAt {
+            ok: false,
+            value: value,
+            at: at,
+        };
+    }
+    if !w.ok {
+        return PairAt {
+            ok: false,
+            value: value,
+            at: at,
+        };
+    }
+    PairAt {
+        ok: true,
+        value: value,
+        at: at + (5 + n),
+    }
+}
+
+// A pair, which stays where it stands.
+pub fn pair_past(s: &[u8], ok: bool, at: usize) -> PastAt
+    requires { ⌜ at ≤ length (now s) ⌝ }
+    ensures { λ r. ⌜ Stepped pair ok at (now (s .entry)) (r .ok) (pairHere (drop at (now (s .entry)))) (r .at) ⌝ }
+    ensures { λ r. ⌜ (r .ok ≡ true → PairIn (now (s .entry)) at) ⌝ }
+{
+    let w = pair_span(&s[at..]);
+    let n = w.len;
+    if !ok {
+        return PastAt { ok: false, at: at };
+    }
+    if !w.ok {
+        return PastAt { ok: false, at: at };
+    }
+    PastAt {
+        ok: true,
+        at: at + (5 + n),
+    }
+}
+
+// A message.
+pub fn message_at(s: &[u8], ok: bool, at: usize) -> MessageAt
+    requires { ⌜ at ≤ length (now s) ⌝ }
+    ensures { λ r. ⌜ Stepped message ok at (now (s .entry)) (r .ok) (viewMessage (r .value)) (r .at) ⌝ }
+    ensures { λ r. ⌜ FitMessage (r .value) ⌝ }
+{
+    let w = read_message(&s[at..]);
+    let value = w.value;
+    let n = value.len;
+    if !ok {
+        return MessageAt {
+            ok: false,
+            value: value,
+            at: at,
+        };
+    }
+    if !w.ok {
+        return MessageAt {
+            ok: false,
+            value: value,
+            at: at,
+        };
+    }
+    MessageAt {
+        ok: true,
+        value: value,
+        at: at + (2 + n),
+    }
+}
+
+// A message, which stays where it stands.
+pub fn span_at(s: &[u8], ok: bool, at: usize) -> SpanAt
+    requires { ⌜ at ≤ length (now s) ⌝ }
+    ensures { λ r. ⌜ Stepped message ok at (now (s .entry)) (r .ok) (spanOf (now (s .entry)) (r .value)) (r .at) ⌝ }
+    ensures { λ r. ⌜ FitSpan (now (s .entry)) (r .value) ⌝ }
+{
+    let w = message_span(&s[at..]);
+    let n = w.len;
+    if !ok {
+        return SpanAt {
+            ok: false,
+            value: Span { at: at, len: 0 },
+            at: at,
+        };
+    }
+    if !w.ok {
+        return SpanAt {
+            ok: false,
+            value: Span { at: at, len: 0 },
+            at: at,
+        };
+    }
+    SpanAt {
+        ok: true,
+        value: Span { at: at + 2, len: n },
+        at: at + (2 + n),
+    }
+}
+
+// Whether all went well and nothing is left over.
+pub fn whole(s: &[u8], ok: bool, at: usize) -> bool
+    ensures { λ r. ⌜ r ≡ ok && eqb at (length (now (s .entry))) ⌝ }
+{
+    if !ok {
+        return false;
+    }
+    at == s.len()
+}

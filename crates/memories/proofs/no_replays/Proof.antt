@@ -1,9 +1,0 @@
-use borrow.Author.Needs.{needs}
-use Rattle.memories.proofs.no_replays.Statement.{statement}
-use Rattle.memories.proofs.no_replays.Tie as tie
-
-returns : tie.Need-returns
-returns c = rw (c .blank-replay .ensures)
-
-pub no-replays-spec : {M : Type 1} → statement M
-no-replays-spec = tie.close (tie.spec (λ c κs. search needs) returns)

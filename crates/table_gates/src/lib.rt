@@ -1,0 +1,93 @@
+// What is remembered of the peers in the table.
+use gates_types::Liveness;
+use gates_types::Source;
+use gates_types::Verdict;
+use node_addr::Digest;
+use node_addr::NodeAddr;
+use params::Params;
+ghost use mathlib.Core.Path.{_≡_};
+ghost use mathlib.Core.Option.{some};
+ghost use lib.ListN.{length};
+ghost use Rattle.rules.specs.Base.{All};
+ghost use Rattle.rules.specs.Std.{Ascending};
+ghost use Rattle.rules.specs.Gates as rule;
+ghost use Rattle.rules.specs.Settle.{withGates};
+ghost use Rattle.params.specs.View.{viewParams};
+ghost use Rattle.gates_types.specs.View.{optional, FitParams, Within, refusedBy, asking};
+ghost use Rattle.gates.specs.Order.{Room};
+ghost use Rattle.table_layout.specs.View.{viewTable, FitTable, Told};
+
+// How many peers are remembered.
+pub fn memory_count(t: &[u8]) -> usize
+    requires { ⌜ FitTable (now t) ⌝ }
+    ensures { λ r. ⌜ r ≡ length (viewTable (now (t .entry)) .gates) ⌝ }
+{
+    gates::map::memory_count(&t[25189..45478])
+}
+
+// The judgement of what asks.
+pub fn judged(
+    t: &[u8],
+    peer: NodeAddr,
+    source: Source,
+    l: Liveness,
+    digest: Digest,
+    epoch: u64,
+    clock: u64,
+    c: Params,
+) -> Verdict
+    requires { ⌜ FitTable (now t) ⌝ }
+    ensures { λ r. ⌜ refusedBy r ≡ rule.gate (viewParams c) clock (asking source l digest epoch) (rule.memory (peer .0) (viewTable (now (t .entry)) .gates)) ⌝ }
+{
+    gates::calls::judged(&t[25189..45478], peer, source, l, digest, epoch, clock, c)
+}
+
+// A msg1 with a digest promoted the peer unheard.
+pub fn promoted(t: &mut [u8], peer: NodeAddr, digest: Digest, clock: u64, c: Params)
+    requires { ⌜ FitTable (now t) ⌝ }
+    requires { ⌜ Ascending rule.earlierMemory (viewTable (now t) .gates) ⌝ }
+    requires { ⌜ FitParams c ⌝ }
+    requires { ⌜ Room (peer .0) (viewTable (now t) .gates) (length (viewTable (now t) .gates)) ⌝ }
+    ensures { λ r. ⌜ Told (now (t .exit)) (withGates (rule.store (rule.promoted (viewParams c) clock (digest .0) (rule.memory (peer .0) (viewTable (now (t .entry)) .gates))) (viewTable (now (t .entry)) .gates)) (viewTable (now (t .entry)))) ⌝ }
+{
+    gates::calls::promoted(&mut t[25189..45478], peer, digest, clock, c);
+}
+
+// A session of the peer ended unheard; `setup` is the digest of the msg1 that it came from, if it came from one (`answered`).
+pub fn ended(
+    t: &mut [u8],
+    peer: NodeAddr,
+    epoch: u64,
+    answered: bool,
+    setup: Digest,
+    clock: u64,
+    c: Params,
+)
+    requires { ⌜ FitTable (now t) ⌝ }
+    requires { ⌜ Ascending rule.earlierMemory (viewTable (now t) .gates) ⌝ }
+    requires { ⌜ All (Within (viewParams c)) (viewTable (now t) .gates) ⌝ }
+    requires { ⌜ FitParams c ⌝ }
+    requires { ⌜ Room (peer .0) (viewTable (now t) .gates) (length (viewTable (now t) .gates)) ⌝ }
+    ensures { λ r. ⌜ Told (now (t .exit)) (withGates (rule.store (rule.ended (viewParams c) clock (some epoch) (optional answered (setup .0)) (rule.memory (peer .0) (viewTable (now (t .entry)) .gates))) (viewTable (now (t .entry)) .gates)) (viewTable (now (t .entry)))) ⌝ }
+{
+    gates::calls::ended(&mut t[25189..45478], peer, epoch, answered, setup, clock, c);
+}
+
+// A heard peering of the peer was given up.
+pub fn stamp(t: &mut [u8], peer: NodeAddr, clock: u64)
+    requires { ⌜ FitTable (now t) ⌝ }
+    requires { ⌜ Ascending rule.earlierMemory (viewTable (now t) .gates) ⌝ }
+    requires { ⌜ Room (peer .0) (viewTable (now t) .gates) (length (viewTable (now t) .gates)) ⌝ }
+    ensures { λ r. ⌜ Told (now (t .exit)) (withGates (rule.store (rule.stamped clock (rule.memory (peer .0) (viewTable (now (t .entry)) .gates))) (viewTable (now (t .entry)) .gates)) (viewTable (now (t .entry)))) ⌝ }
+{
+    gates::calls::stamp(&mut t[25189..45478], peer, clock);
+}
+
+// A frame of the peer authenticated: its replays and its silences are forgotten.
+pub fn heard(t: &mut [u8], peer: NodeAddr)
+    requires { ⌜ FitTable (now t) ⌝ }
+    requires { ⌜ Ascending rule.earlierMemory (viewTable (now t) .gates) ⌝ }
+    ensures { λ r. ⌜ Told (now (t .exit)) (withGates (rule.store (rule.clear (rule.memory (peer .0) (viewTable (now (t .entry)) .gates))) (viewTable (now (t .entry)) .gates)) (viewTable (now (t .entry)))) ⌝ }
+{
+    gates::calls::heard(&mut t[25189..45478], peer);
+}
