@@ -13,6 +13,8 @@ use Rattle.legs.specs.View.{FitLegs, viewLegs}
 use Rattle.legs.specs.Same.{fit-new, shows-none}
 use Rattle.table_layout.specs.View.{legsIn, viewTable, FitTable, Told}
 use Rattle.table_layout.specs.Told.{told-same, told-is, told-legs}
+use Rattle.legs_entry.specs.Layout.{legsLen}
+use Rattle.table_layout.specs.Layout.{atLegs}
 
 -- all bytes written
 whole : {xs : Bytes} {n : ℕ} {bs ys : Bytes} {r : ℕ} → Wrote xs 0 n bs ys r → length xs ≡ n → ys ≡ bs
@@ -21,15 +23,15 @@ whole {xs} {n} {bs} w e =
     let z : drop (0 + length bs) xs ≡ [] = drop-of-length-le xs {i = 0 + length bs} (omega (arith, w .size)) in
     w .is ∙ ap (λ (u : Bytes). bs ++ u) z ∙ append-nil bs
 
-pub legs-size : {t : Bytes} → FitTable t → length (legsIn t) ≡ 11233
-legs-size {t} f = length-take-le 11233 (drop 9603 t) (rw length-drop (omega (arith, f .size)))
+pub legs-size : {t : Bytes} → FitTable t → length (legsIn t) ≡ legsLen
+legs-size {t} f = length-take-le legsLen (drop atLegs t) (rw length-drop (omega (arith, f .size)))
 
-pub legs-room : {t : Bytes} → FitTable t → 0 + 11233 ≤ length (legsIn t)
+pub legs-room : {t : Bytes} → FitTable t → 0 + legsLen ≤ length (legsIn t)
 legs-room f = omega (arith, legs-size f)
 
-pub legs-cleared : {t l : Bytes} {r : ℕ} → FitTable t → Wrote (legsIn t) 0 11233 (replicate 11233 0) l r → Told (take 9603 t ++ (l ++ drop 11233 (drop 9603 t))) (withLegs [] (viewTable t))
+pub legs-cleared : {t l : Bytes} {r : ℕ} → FitTable t → Wrote (legsIn t) 0 legsLen (replicate legsLen 0) l r → Told (take atLegs t ++ (l ++ drop legsLen (drop atLegs t))) (withLegs [] (viewTable t))
 legs-cleared {t} {l} f w =
-    let e : l ≡ replicate 11233 0 = whole w (legs-size f) in
+    let e : l ≡ replicate legsLen 0 = whole w (legs-size f) in
     told-legs f (subst FitLegs (sym e) fit-new) (ap viewLegs e ∙ shows-none)
 
 -- there was none

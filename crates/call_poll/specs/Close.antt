@@ -23,6 +23,7 @@ use Rattle.output_closes.specs.Lists.{pairs-append, pairs-small, pairs-count, c
 use Rattle.table_layout.specs.View.{legsIn, viewTable, FitTable, Told, nthLeg}
 use Rattle.table_layout.specs.Told.{leg-to, told-then}
 use Rattle.call_contract.specs.Did.{Space, Did, space-place, space-head, space-first, space-rest, wrote-length}
+use Rattle.node_addr.specs.Layout.{pairWidth}
 use Rattle.call_poll.specs.Loop.{Writing, writing-start, writing-room, writing-one, writing-end}
 
 -- ---- leases
@@ -79,7 +80,7 @@ pub record Listed (xs : Bytes) (from : ℕ) (ps : List Pair) (ys : Bytes) (e n :
   pub end : e ≡ from + length (pairsBytes ps)
   pub size : length ys ≡ length xs
   pub is : ys ≡ splice xs from (pairsBytes ps)
-  pub most : length (pairsBytes ps) ≤ 53 * n
+  pub most : length (pairsBytes ps) ≤ pairWidth * n
 
 pub listed-none : (xs : Bytes) (from : ℕ) → Listed xs from [] xs from 0
 listed-none xs from = record { count = refl; end = sym (add-zero from); size = refl; is = sym (splice-none xs from); most = omega arith }

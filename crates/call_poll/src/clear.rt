@@ -1,5 +1,8 @@
 // All legs at once. The offsets are those of crate state.
+use legs_entry::layout::LEGS_LEN;
 use lib_bytes::write::clear;
+use table_layout::layout::LEGS;
+use table_layout::layout::LEGS_END;
 use table_legs::leg_count;
 ghost use mathlib.Core.List.{[]};
 ghost use Rattle.rules.specs.Settle as settle;
@@ -13,5 +16,5 @@ pub fn clear_legs(t: &mut [u8])
     if leg_count(t) == 0 {
         return;
     }
-    clear(&mut t[9603..20836], 0, 11233);
+    clear(&mut t[LEGS..LEGS_END], 0, LEGS_LEN);
 }

@@ -16,14 +16,16 @@ use Rattle.lib_laws.specs.Fields.{sum}
 use Rattle.lib_laws.specs.Store.{Store, entries, store-zeros, same-view}
 use Rattle.lib_laws.specs.Same.{cell-size, cell-bytes, num-cells, cells-same, with-bytes}
 use Rattle.gates_entry.specs.Rows.{AnyBytes}
-use Rattle.gates_entry.specs.View.{replayOf, digestOf, silenceWs, silenceOf, FitSilenceCell, entryWs, entryOf, FitEntry, viewGates, FitGates, fit-zeros}
+use Rattle.gates_entry.specs.View.{replayOf, digestOf, silenceOf, FitSilenceCell, entryOf, FitEntry, viewGates, FitGates, fit-zeros}
+use Rattle.node_addr.specs.Layout.{digestLen}
+use Rattle.gates_entry.specs.Layout.{atMemoryCount, digestCap, gatesLen, memoryCap, memoryWidth, replayCap, replayWidth, replaysLen, silenceLen, entryWs, silenceWs}
 
 -- ---- new memory
-pub fit-new : FitGates (replicate 20289 0)
-fit-new = store-zeros FitEntry 634 32 fit-zeros
+pub fit-new : FitGates (replicate gatesLen 0)
+fit-new = store-zeros FitEntry memoryWidth memoryCap fit-zeros
 
-pub shows-none : viewGates (replicate 20289 0) ≡ []
-shows-none = ap (λ (n : ℕ). map entryOf (take n (chunks 634 32 (replicate 20289 0)))) (getD-replicate 20289 20288 0 0 (lit≤ tt))
+pub shows-none : viewGates (replicate gatesLen 0) ≡ []
+shows-none = ap (λ (n : ℕ). map entryOf (take n (chunks memoryWidth memoryCap (replicate gatesLen 0)))) (getD-replicate gatesLen atMemoryCount 0 0 (lit≤ tt))
 
 -- ---- equal contents are equal bytes
 -- replays, and counted digests
@@ -34,14 +36,14 @@ replay-same c d h k a b e =
     let y : take 8 (drop 32 c) ≡ take 8 (drop 32 d) = num-cells 8 32 c d (omega arith) (omega arith) a b (ap (λ (r : Replay). r .seen) e) in
     cells-same 0 (32 ∷ 8 ∷ []) c d h k (rw (x, y))
 
-replays-same : {s u : Bytes} → Store AnyBytes 40 8 s → Store AnyBytes 40 8 u → All IsByte s → All IsByte u → entries replayOf 40 8 s ≡ entries replayOf 40 8 u → s ≡ u
+replays-same : {s u : Bytes} → Store AnyBytes replayWidth replayCap s → Store AnyBytes replayWidth replayCap u → All IsByte s → All IsByte u → entries replayOf replayWidth replayCap s ≡ entries replayOf replayWidth replayCap u → s ≡ u
 replays-same f g a b e = same-view replayOf (with-bytes f a) (with-bytes g b) (λ c d p q. replay-same c d (p .1) (q .1) (p .0 .1) (q .0 .1)) e
 
-digests-same : {s u : Bytes} → Store AnyBytes 32 8 s → Store AnyBytes 32 8 u → entries digestOf 32 8 s ≡ entries digestOf 32 8 u → s ≡ u
+digests-same : {s u : Bytes} → Store AnyBytes digestLen digestCap s → Store AnyBytes digestLen digestCap u → entries digestOf digestLen digestCap s ≡ entries digestOf digestLen digestCap u → s ≡ u
 digests-same f g e = same-view digestOf f g (λ c d p q z. z) e
 
 -- a silence
-module _ (c d : Bytes) (f : FitSilenceCell c) (g : FitSilenceCell d) (h : length c ≡ 287) (k : length d ≡ 287) (a : All IsByte c) (b : All IsByte d) where
+module _ (c d : Bytes) (f : FitSilenceCell c) (g : FitSilenceCell d) (h : length c ≡ silenceLen) (k : length d ≡ silenceLen) (a : All IsByte c) (b : All IsByte d) where
   silence-same : silenceOf c ≡ silenceOf d → c ≡ d
   unfolding silenceOf sum
   silence-same e =
@@ -59,17 +61,17 @@ module _ (c d : Bytes) (f : FitSilenceCell c) (g : FitSilenceCell d) (h : length
       ))
 
 -- an entry
-module _ (c d : Bytes) (f : FitEntry c) (g : FitEntry d) (h : length c ≡ 634) (k : length d ≡ 634) (a : All IsByte c) (b : All IsByte d) where
-  silences-same : entryOf c .silence ≡ entryOf d .silence → (take 1 (drop 25 c) ≡ take 1 (drop 25 d)) × (take 287 (drop 26 c) ≡ take 287 (drop 26 d))
+module _ (c d : Bytes) (f : FitEntry c) (g : FitEntry d) (h : length c ≡ memoryWidth) (k : length d ≡ memoryWidth) (a : All IsByte c) (b : All IsByte d) where
+  silences-same : entryOf c .silence ≡ entryOf d .silence → (take 1 (drop 25 c) ≡ take 1 (drop 25 d)) × (take silenceLen (drop 26 c) ≡ take silenceLen (drop 26 d))
   silences-same e = go (flagOf (take 1 (drop 25 c))) (flagOf (take 1 (drop 25 d))) refl refl e
     where
       go : (x y : Bool) → flagOf (take 1 (drop 25 c)) ≡ x → flagOf (take 1 (drop 25 d)) ≡ y
-          → (if x then some (silenceOf (take 287 (drop 26 c))) else none) ≡ (if y then some (silenceOf (take 287 (drop 26 d))) else none)
-          → (take 1 (drop 25 c) ≡ take 1 (drop 25 d)) × (take 287 (drop 26 c) ≡ take 287 (drop 26 d))
+          → (if x then some (silenceOf (take silenceLen (drop 26 c))) else none) ≡ (if y then some (silenceOf (take silenceLen (drop 26 d))) else none)
+          → (take 1 (drop 25 c) ≡ take 1 (drop 25 d)) × (take silenceLen (drop 26 c) ≡ take silenceLen (drop 26 d))
       go true true p q z =
-          let w : silenceOf (take 287 (drop 26 c)) ≡ silenceOf (take 287 (drop 26 d)) = cc in (
+          let w : silenceOf (take silenceLen (drop 26 c)) ≡ silenceOf (take silenceLen (drop 26 d)) = cc in (
             flag-same (f .silent) (g .silent) (p ∙ sym q),
-            silence-same (take 287 (drop 26 c)) (take 287 (drop 26 d)) (f .silence) (g .silence) (cell-size 287 26 c (omega arith)) (cell-size 287 26 d (omega arith)) (cell-bytes 287 26 c a) (cell-bytes 287 26 d b) w,
+            silence-same (take silenceLen (drop 26 c)) (take silenceLen (drop 26 d)) (f .silence) (g .silence) (cell-size silenceLen 26 c (omega arith)) (cell-size silenceLen 26 d (omega arith)) (cell-bytes silenceLen 26 c a) (cell-bytes silenceLen 26 d b) w,
           )
       go true false p q z = let n : _≡_ {A = ℕ} 0 1 = cc in absurd (omega arith)
       go false true p q z = let n : _≡_ {A = ℕ} 0 1 = cc in absurd (omega arith)
@@ -87,7 +89,7 @@ module _ (c d : Bytes) (f : FitEntry c) (g : FitEntry d) (h : length c ≡ 634) 
         x .1,
         y .0,
         y .1,
-        replays-same (f .replays) (g .replays) (cell-bytes 321 313 c a) (cell-bytes 321 313 d b) (ap (λ (m : Memory). m .replays) e),
+        replays-same (f .replays) (g .replays) (cell-bytes replaysLen 313 c a) (cell-bytes replaysLen 313 d b) (ap (λ (m : Memory). m .replays) e),
       ))
 
 pub same-gates : {s u : Bytes} → FitGates s → FitGates u → All IsByte s → All IsByte u → viewGates s ≡ viewGates u → s ≡ u

@@ -17,6 +17,7 @@ use Rattle.node_addr.specs.declared.Found.the-variants as foundv
 use Rattle.node_addr.specs.View.{Finds, finds-some, finds-no}
 use Rattle.gates_entry.specs.Entry.{peer-here}
 use Rattle.gates_entry.specs.View.{entryOf, viewGates, FitGates, gateCount, noMemory, memoryAt}
+use Rattle.gates_entry.specs.Layout.{memoryCap, memoryWidth}
 
 pub count-is : {s : Bytes} → FitGates s → length (viewGates s) ≡ gateCount s
 count-is f = entries-count entryOf f
@@ -29,13 +30,13 @@ after p m = before p (m .peer)
 pub record Scanning (o : Option ℕ) (t : Memory → Bool) (s : Bytes) (n i : ℕ) : Type 0 where
   pub fit : FitGates s
   pub count : n ≡ gateCount s
-  pub ahead : Ahead o t entryOf (gateCount s) (chunks 634 32 s) i
+  pub ahead : Ahead o t entryOf (gateCount s) (chunks memoryWidth memoryCap s) i
 
 pub scanning-start : {s : Bytes} {n : ℕ} (t : Memory → Bool) → FitGates s → n ≡ gateCount s → Scanning (scan t 0 (viewGates s)) t s n 0
 scanning-start t f e = record { fit = f; count = e; ahead = record { within = omega arith; room = omega arith; left = refl } }
 
 module _ {o : Option ℕ} {t : Memory → Bool} {s : Bytes} {n i : ℕ} (a : Scanning o t s n i) where
-  there : i < n → t (entryOf (getD (chunks 634 32 s) i [])) ≡ t (memoryAt s i)
+  there : i < n → t (entryOf (getD (chunks memoryWidth memoryCap s) i [])) ≡ t (memoryAt s i)
   there h = ap t (shown entryOf i [] noMemory (a .fit .kept) (omega arith))
 
   pub scanning-at : i < n → t (memoryAt s i) ≡ true → o ≡ some i
@@ -65,5 +66,5 @@ pub takes-end : {o : Option ℕ} {n end : ℕ} → o ≡ none → end ≡ n → 
 takes-end e q = record { within = omega arith; is = rw e q }
 
 -- what was told of the peer where it stands
-pub told-peer : (g : Bytes → Bytes → Bool) (p : Bytes) {s : Bytes} {n : ℕ} {r b : Bool} (i : ℕ) → FitGates s → n ≡ gateCount s → i < n → r ≡ g p (take 16 (drop (i * 634) s)) → r ≡ b → g p (memoryAt s i .peer) ≡ b
+pub told-peer : (g : Bytes → Bytes → Bool) (p : Bytes) {s : Bytes} {n : ℕ} {r b : Bool} (i : ℕ) → FitGates s → n ≡ gateCount s → i < n → r ≡ g p (take 16 (drop (i * memoryWidth) s)) → r ≡ b → g p (memoryAt s i .peer) ≡ b
 told-peer g p {s} i f e h q z = ap (g p) (sym (peer-here s i f (omega arith))) ∙ sym q ∙ z

@@ -3,6 +3,10 @@ use crate::map::find_memory;
 use crate::map::memory_of;
 use crate::map::replace_memory;
 use crate::map::store_memory;
+use gates_entry::layout::HAS_SILENCE;
+use gates_entry::layout::HAS_STAMP;
+use gates_entry::layout::MEMORY_REPLAY_COUNT;
+use gates_entry::layout::MEMORY_WIDTH;
 use gates_entry::load::get_memory;
 use gates_judge::gate;
 use gates_judge::gate_blank;
@@ -87,14 +91,14 @@ fn is_still(s: &[u8], i: usize) -> bool
     requires { ⌜ i < gateCount (now s) ⌝ }
     ensures { λ r. ⌜ r ≡ still (memoryAt (now (s .entry)) i) ⌝ }
 {
-    let a = i * 634;
-    if !get_flag(s, a + 16) {
+    let a = i * MEMORY_WIDTH;
+    if !get_flag(s, a + HAS_STAMP) {
         return false;
     }
-    if s[a + 633] != 0 {
+    if s[a + MEMORY_REPLAY_COUNT] != 0 {
         return false;
     }
-    !get_flag(s, a + 25)
+    !get_flag(s, a + HAS_SILENCE)
 }
 
 // The i-th memory cleared.

@@ -1,4 +1,7 @@
 // The memories of a region: counted, found by peer, stored.
+use gates_entry::layout::MEMORY_CAP;
+use gates_entry::layout::MEMORY_COUNT;
+use gates_entry::layout::MEMORY_WIDTH;
 use gates_entry::load::get_memory;
 use gates_entry::put::put_memory;
 use gates_memory::remembers;
@@ -32,7 +35,7 @@ pub fn memory_count(s: &[u8]) -> usize
     ensures { λ r. ⌜ r ≡ gateCount (now (s .entry)) ⌝ }
     ensures { λ r. ⌜ r ≡ length (viewGates (now (s .entry))) ⌝ }
 {
-    count(s, 20288)
+    count(s, MEMORY_COUNT)
 }
 
 // The place of a peer's memory.
@@ -43,7 +46,7 @@ pub fn find_memory(s: &[u8], peer: NodeAddr) -> Found
     let end = memory_count(s);
     let mut i = 0;
     while i < end {
-        if node_here(s, i * 634, peer) {
+        if node_here(s, i * MEMORY_WIDTH, peer) {
             return Found::At(i);
         }
         i += 1;
@@ -59,7 +62,7 @@ fn place_of(s: &[u8], peer: NodeAddr) -> usize
     let end = memory_count(s);
     let mut i = 0;
     while i < end {
-        if before_here(s, i * 634, peer) {
+        if before_here(s, i * MEMORY_WIDTH, peer) {
             return i;
         }
         i += 1;
@@ -88,9 +91,9 @@ pub fn replace_memory(s: &mut [u8], i: usize, m: Memory)
     ensures { λ r. ⌜ viewGates (now (s .exit)) ≡ (if rule.remembers (viewMemory m) then set (viewGates (now (s .entry))) i (viewMemory m) else erase i (viewGates (now (s .entry)))) ⌝ }
 {
     if remembers(m) {
-        put_memory(s, i * 634, m);
+        put_memory(s, i * MEMORY_WIDTH, m);
     } else {
-        remove_chunk(s, 634, 32, i);
+        remove_chunk(s, MEMORY_WIDTH, MEMORY_CAP, i);
     }
 }
 
@@ -104,8 +107,8 @@ fn insert_memory(s: &mut [u8], m: Memory)
 {
     let peer = m.peer;
     let at = place_of(s, peer);
-    open_chunk(s, 634, 32, at);
-    put_memory(s, at * 634, m);
+    open_chunk(s, MEMORY_WIDTH, MEMORY_CAP, at);
+    put_memory(s, at * MEMORY_WIDTH, m);
 }
 
 // The same, unless it remembers nothing.

@@ -27,8 +27,10 @@ use Rattle.gates_types.specs.declared.Digests.{Digests}
 use Rattle.gates_types.specs.declared.Silence.{Silence}
 use Rattle.gates_types.specs.declared.Memory.{Memory}
 use Rattle.gates_types.specs.View.{optional, viewReplay, viewReplays, viewDigest, viewDigests, viewSilence, viewMemory, blankReplay, blankSilence, FitReplay, FitDigest, FitReplays, FitDigests, WideSilence, FitSilence, FitMemory}
+use Rattle.node_addr.specs.Layout.{digestLen}
+use Rattle.gates_entry.specs.Layout.{entryWs, silenceWs, atReplays, atSeen, digestCap, digestsLen, memoryWidth, replayCap, replayWidth, replaysLen, silenceLen}
 use Rattle.gates_entry.specs.Rows.{AnyBytes, cuts-part, row-size, row-store, row-shows}
-use Rattle.gates_entry.specs.View.{replayOf, digestOf, silenceWs, silenceFrom, silenceOf, SilenceCells, FitSilenceCell, entryWs, entryFrom, entryOf, FitCells, FitEntry, FitGates, gateCount, noMemory, memoryAt}
+use Rattle.gates_entry.specs.View.{replayOf, digestOf, silenceFrom, silenceOf, SilenceCells, FitSilenceCell, entryFrom, entryOf, FitCells, FitEntry, FitGates, gateCount, noMemory, memoryAt}
 
 -- ---- a replay and a digest at a place
 abbrev pub replayAt : Bytes → ℕ → Replay
@@ -48,22 +50,22 @@ in-row w s at i o n p q m h =
     let e : at + (i * w + o) ≡ at + i * w + o = omega arith in
     field-at w 8 (take (8 * w + 1) (drop at s)) i [] o n p q (omega arith) ∙ part-at (8 * w + 1) s at (i * w + o) n (omega arith) ∙ rw e
 
-pub replay-here : (s : Bytes) (at i : ℕ) → i < 8 → at + 321 ≤ length s → replayAt s (at + i * 40) ≡ replayIn (getD (chunks 40 8 (take 321 (drop at s))) i [])
+pub replay-here : (s : Bytes) (at i : ℕ) → i < 8 → at + replaysLen ≤ length s → replayAt s (at + i * replayWidth) ≡ replayIn (getD (chunks replayWidth replayCap (take replaysLen (drop at s))) i [])
 replay-here s at i p h =
-    let z : at + i * 40 + 0 ≡ at + i * 40 = add-zero (at + i * 40) in
-    let x : take 32 (drop 0 (getD (chunks 40 8 (take 321 (drop at s))) i [])) ≡ take 32 (drop (at + i * 40) s) = in-row 40 s at i 0 32 p (lit≤ tt) (omega arith) h ∙ rw z in
-    let y : take 8 (drop 32 (getD (chunks 40 8 (take 321 (drop at s))) i [])) ≡ take 8 (drop (at + i * 40 + 32) s) = in-row 40 s at i 32 8 p (lit≤ tt) (omega arith) h in
+    let z : at + i * replayWidth + 0 ≡ at + i * replayWidth = add-zero (at + i * replayWidth) in
+    let x : take 32 (drop 0 (getD (chunks replayWidth replayCap (take replaysLen (drop at s))) i [])) ≡ take 32 (drop (at + i * replayWidth) s) = in-row 40 s at i 0 32 p (lit≤ tt) (omega arith) h ∙ rw z in
+    let y : take 8 (drop 32 (getD (chunks replayWidth replayCap (take replaysLen (drop at s))) i [])) ≡ take 8 (drop (at + i * replayWidth + atSeen) s) = in-row 40 s at i digestLen digestCap p (lit≤ tt) (omega arith) h in
     sym (rw (x, y))
 
-pub digest-here : (s : Bytes) (at i : ℕ) (d : Digest) → i < 8 → at + 257 ≤ length s → d .0 ≡ take 32 (drop (at + i * 32) s) → d ≡ digestIn (getD (chunks 32 8 (take 257 (drop at s))) i [])
+pub digest-here : (s : Bytes) (at i : ℕ) (d : Digest) → i < 8 → at + digestsLen ≤ length s → d .0 ≡ take 32 (drop (at + i * 32) s) → d ≡ digestIn (getD (chunks digestLen digestCap (take digestsLen (drop at s))) i [])
 digest-here s at i d p h e =
     let z : at + i * 32 + 0 ≡ at + i * 32 = add-zero (at + i * 32) in
-    let l : length (take 257 (drop at s)) ≡ 257 = length-take-le 257 (drop at s) (rw length-drop (omega arith)) in
-    let x : take 32 (drop 0 (getD (chunks 32 8 (take 257 (drop at s))) i [])) ≡ take 32 (drop (at + i * 32) s) = in-row 32 s at i 0 32 p (lit≤ tt) (omega arith) h ∙ rw z in
-    ap digestIn (e ∙ sym x ∙ take-all 32 (getD (chunks 32 8 (take 257 (drop at s))) i []) (whole l))
+    let l : length (take digestsLen (drop at s)) ≡ digestsLen = length-take-le digestsLen (drop at s) (rw length-drop (omega arith)) in
+    let x : take 32 (drop 0 (getD (chunks digestLen digestCap (take digestsLen (drop at s))) i [])) ≡ take 32 (drop (at + i * 32) s) = in-row 32 s at i 0 32 p (lit≤ tt) (omega arith) h ∙ rw z in
+    ap digestIn (e ∙ sym x ∙ take-all 32 (getD (chunks digestLen digestCap (take digestsLen (drop at s))) i []) (whole l))
   where
-    whole : length (take 257 (drop at s)) ≡ 257 → length (getD (chunks 32 8 (take 257 (drop at s))) i []) ≤ 32
-    whole l = let q = chunk-size 32 8 (take 257 (drop at s)) i [] p (omega arith) in omega arith
+    whole : length (take digestsLen (drop at s)) ≡ digestsLen → length (getD (chunks digestLen digestCap (take digestsLen (drop at s))) i []) ≤ 32
+    whole l = let q = chunk-size digestLen digestCap (take digestsLen (drop at s)) i [] p (omega arith) in omega arith
 
 -- a row's count, where it stands
 pub row-count : (n : ℕ) (s : Bytes) (at : ℕ) → getD (take (n + 1) (drop at s)) n 0 ≡ getD s (at + n) 0
@@ -94,28 +96,28 @@ replay-shows e f = rw (take-at (e .digest .0) (digits 8 (e .seen)) 32 (f .digest
     rw (take-all 8 (digits 8 (e .seen)) (rw (length-digits 8 (e .seen)) (lit≤ tt)), more-digits 8 (e .seen) (f .seen .fits)))
 
 module _ (r : Replays) (f : FitReplays r) where
-  replays-size : length (replaysBytes r) ≡ 321
+  replays-size : length (replaysBytes r) ≡ replaysLen
   unfolding replaysBytes
   replays-size = row-size viewReplay replayOf replayBytes 40 f replay-wide replay-blank
 
-  replays-store : Store AnyBytes 40 8 (replaysBytes r)
+  replays-store : Store AnyBytes replayWidth replayCap (replaysBytes r)
   unfolding replaysBytes
   replays-store = row-store viewReplay replayOf replayBytes 40 f replay-wide replay-blank
 
-  replays-show : entries replayOf 40 8 (replaysBytes r) ≡ viewReplays r
+  replays-show : entries replayOf replayWidth replayCap (replaysBytes r) ≡ viewReplays r
   unfolding replaysBytes
   replays-show = row-shows viewReplay replayOf replayBytes 40 f replay-wide replay-blank replay-shows
 
 module _ (d : Digests) (f : FitDigests d) where
-  digests-size : length (digestsBytes d) ≡ 257
+  digests-size : length (digestsBytes d) ≡ digestsLen
   unfolding digestsBytes
   digests-size = row-size viewDigest digestOf viewDigest 32 f digest-wide refl
 
-  digests-store : Store AnyBytes 32 8 (digestsBytes d)
+  digests-store : Store AnyBytes digestLen digestCap (digestsBytes d)
   unfolding digestsBytes
   digests-store = row-store viewDigest digestOf viewDigest 32 f digest-wide refl
 
-  digests-show : entries digestOf 32 8 (digestsBytes d) ≡ viewDigests d
+  digests-show : entries digestOf digestLen digestCap (digestsBytes d) ≡ viewDigests d
   unfolding digestsBytes
   digests-show = row-shows viewDigest digestOf viewDigest 32 f digest-wide refl (λ x p. refl)
 
@@ -135,8 +137,8 @@ silence-spelt : (x : Silence) → silenceRow x ≡ silenceBytes x
 unfolding silenceBytes joined
 silence-spelt x = simp (append-assoc, append-nil)
 
-pub put-silence-is : (x : Silence) {xs : Bytes} {at : ℕ} {ys : Bytes} {r : ℕ} → Wrote xs at 287 (silenceRow x) ys r → Wrote xs at 287 (silenceBytes x) ys r
-put-silence-is x {xs} {at} {ys} {r} w = subst (λ (b : Bytes). Wrote xs at 287 b ys r) (silence-spelt x) w
+pub put-silence-is : (x : Silence) {xs : Bytes} {at : ℕ} {ys : Bytes} {r : ℕ} → Wrote xs at silenceLen (silenceRow x) ys r → Wrote xs at silenceLen (silenceBytes x) ys r
+put-silence-is x {xs} {at} {ys} {r} w = subst (λ (b : Bytes). Wrote xs at silenceLen b ys r) (silence-spelt x) w
 
 optional-number : (b : Bool) (v : ℕ) → (b ≡ false → v ≡ 0) → Optional 8 (one b ∷ []) (digits 8 v)
 unfolding digits
@@ -151,7 +153,7 @@ module _ (x : Silence) (f : FitSilence x) where
   unfolding silenceBytes
   silence-cells = cuts-spelt (silenceFields x) silenceWs (joined (silenceFields x)) silence-widths refl
 
-  silence-size : length (silenceBytes x) ≡ 287
+  silence-size : length (silenceBytes x) ≡ silenceLen
   unfolding silenceBytes sum
   silence-size = length-joined (silenceFields x) ∙ ap sum silence-widths
 
@@ -179,7 +181,7 @@ module _ (x : Silence) (f : FitSilence x) where
         digests-show (x .counted) (f .counted),
       )
 
-silence-blank : silenceBytes blankSilence ≡ replicate 287 0
+silence-blank : silenceBytes blankSilence ≡ replicate silenceLen 0
 unfolding silenceBytes digestsBytes joined digits
 silence-blank = refl
 
@@ -198,8 +200,8 @@ unfolding memoryBytes joined
 memory-spelt m = simp (append-assoc, append-nil)
 
 pub put-memory-is : (m : Memory) {xs : Bytes} {at : ℕ} {ys : Bytes} {r : ℕ}
-    → Wrote xs at 634 (frontRow m ++ silenceBytes (m .silence) ++ replaysBytes (m .replays)) ys r → Wrote xs at 634 (memoryBytes m) ys r
-put-memory-is m {xs} {at} {ys} {r} w = subst (λ (b : Bytes). Wrote xs at 634 b ys r) (memory-spelt m) w
+    → Wrote xs at memoryWidth (frontRow m ++ silenceBytes (m .silence) ++ replaysBytes (m .replays)) ys r → Wrote xs at memoryWidth (memoryBytes m) ys r
+put-memory-is m {xs} {at} {ys} {r} w = subst (λ (b : Bytes). Wrote xs at memoryWidth b ys r) (memory-spelt m) w
 
 module _ (m : Memory) (f : FitMemory m) where
   memory-widths : map length (entryFields m) ≡ entryWs
@@ -239,7 +241,7 @@ pub record LoadedSilence (r : Silence) (a : ℕ) (s : Bytes) : Type 0 where
   pub until : r .until ≡ num (take 8 (drop (a + 22) s))
   pub wide : WideSilence r
   pub fits : FitDigests (r .counted)
-  pub counted : viewDigests (r .counted) ≡ entries digestOf 32 8 (take 257 (drop (a + 30) s))
+  pub counted : viewDigests (r .counted) ≡ entries digestOf digestLen digestCap (take digestsLen (drop (a + 30) s))
 
 -- where the flag is not set
 clear : {f s : Bytes} {b : Bool} {v : ℕ} → Optional 8 f s → b ≡ flagOf f → v ≡ num s → b ≡ false → v ≡ 0
@@ -247,17 +249,17 @@ unfolding more
 clear o e n q = n ∙ ap num (o .blank (sym e ∙ q))
 
 module _ (s : Bytes) (at : ℕ) where
-  pub silence-cuts : cuts 0 0 silenceWs (take 287 (drop at s)) ≡ cuts at 0 silenceWs s
+  pub silence-cuts : cuts 0 0 silenceWs (take silenceLen (drop at s)) ≡ cuts at 0 silenceWs s
   unfolding sum
-  silence-cuts = cuts-part 287 s at 0 silenceWs (lit≤ tt)
+  silence-cuts = cuts-part silenceLen s at 0 silenceWs (lit≤ tt)
 
-  silence-there : FitSilenceCell (take 287 (drop at s)) → SilenceCells (cuts at 0 silenceWs s)
+  silence-there : FitSilenceCell (take silenceLen (drop at s)) → SilenceCells (cuts at 0 silenceWs s)
   silence-there f = subst SilenceCells silence-cuts (f .cells)
 
-  pub counted-cell : FitSilenceCell (take 287 (drop at s)) → Store AnyBytes 32 8 (take 257 (drop (at + 30) s))
+  pub counted-cell : FitSilenceCell (take silenceLen (drop at s)) → Store AnyBytes digestLen digestCap (take digestsLen (drop (at + 30) s))
   counted-cell f = silence-there f .counted
 
-  pub silence-loaded : {r : Silence} → FitSilenceCell (take 287 (drop at s)) → LoadedSilence r at s → FitSilence r × (viewSilence r ≡ silenceOf (take 287 (drop at s)))
+  pub silence-loaded : {r : Silence} → FitSilenceCell (take silenceLen (drop at s)) → LoadedSilence r at s → FitSilence r × (viewSilence r ≡ silenceOf (take silenceLen (drop at s)))
   unfolding silenceOf
   silence-loaded {r} f l =
       let z : at + 0 ≡ at = add-zero at in
@@ -275,31 +277,31 @@ pub record Loaded (r : Memory) (a : ℕ) (s : Bytes) : Type 0 where
   pub silent : r .silent ≡ flagOf (take 1 (drop (a + 25) s))
   pub fit : FitSilence (r .silence)
   pub blank : r .silent ≡ false → r .silence ≡ blankSilence
-  pub silence : optional (r .silent) (viewSilence (r .silence)) ≡ optional (r .silent) (silenceOf (take 287 (drop (a + 26) s)))
+  pub silence : optional (r .silent) (viewSilence (r .silence)) ≡ optional (r .silent) (silenceOf (take silenceLen (drop (a + 26) s)))
   pub fits : FitReplays (r .replays)
-  pub replays : viewReplays (r .replays) ≡ entries replayOf 40 8 (take 321 (drop (a + 313) s))
+  pub replays : viewReplays (r .replays) ≡ entries replayOf replayWidth replayCap (take replaysLen (drop (a + atReplays) s))
 
 module _ (s : Bytes) (i : ℕ) (f : FitGates s) (h : i < gateCount s) where
-  entry-cuts : cuts 0 0 entryWs (take 634 (drop (i * 634) s)) ≡ cuts (i * 634) 0 entryWs s
+  entry-cuts : cuts 0 0 entryWs (take memoryWidth (drop (i * memoryWidth) s)) ≡ cuts (i * memoryWidth) 0 entryWs s
   unfolding sum
-  entry-cuts = cuts-part 634 s (i * 634) 0 entryWs (lit≤ tt)
+  entry-cuts = cuts-part memoryWidth s (i * memoryWidth) 0 entryWs (lit≤ tt)
 
-  pub memory-there : FitCells (cuts (i * 634) 0 entryWs s)
+  pub memory-there : FitCells (cuts (i * memoryWidth) 0 entryWs s)
   memory-there = subst FitCells entry-cuts (entry-fits entryOf f i h)
 
-  pub memory-here : entryFrom (cuts (i * 634) 0 entryWs s) ≡ memoryAt s i
+  pub memory-here : entryFrom (cuts (i * memoryWidth) 0 entryWs s) ≡ memoryAt s i
   memory-here = ap entryFrom (sym entry-cuts) ∙ entry-shows entryOf f i noMemory h
 
-  pub peer-here : take 16 (drop (i * 634) s) ≡ memoryAt s i .peer
-  peer-here = let z : i * 634 + 0 ≡ i * 634 = add-zero (i * 634) in rw z at (ap (λ (m : rule.Memory). m .peer) memory-here)
+  pub peer-here : take 16 (drop (i * memoryWidth) s) ≡ memoryAt s i .peer
+  peer-here = let z : i * memoryWidth + 0 ≡ i * memoryWidth = add-zero (i * memoryWidth) in rw z at (ap (λ (m : rule.Memory). m .peer) memory-here)
 
-  pub memory-loaded : {r : Memory} → Loaded r (i * 634) s → FitMemory r × (viewMemory r ≡ memoryAt s i)
+  pub memory-loaded : {r : Memory} → Loaded r (i * memoryWidth) s → FitMemory r × (viewMemory r ≡ memoryAt s i)
   memory-loaded {r} l =
-      let z : i * 634 + 0 ≡ i * 634 = add-zero (i * 634) in
+      let z : i * memoryWidth + 0 ≡ i * memoryWidth = add-zero (i * memoryWidth) in
       let k = memory-there in
-      let v : viewMemory r ≡ entryFrom (cuts (i * 634) 0 entryWs s) = rw (l .peer, l .stamped, l .stamp, l .silence, l .replays, l .silent, z) in (
+      let v : viewMemory r ≡ entryFrom (cuts (i * memoryWidth) 0 entryWs s) = rw (l .peer, l .stamped, l .stamp, l .silence, l .replays, l .silent, z) in (
         record {
-          peer = rw (l .peer) (length-take-le 16 (drop (i * 634) s) (rw length-drop (omega arith)));
+          peer = rw (l .peer) (length-take-le 16 (drop (i * memoryWidth) s) (rw length-drop (omega arith)));
           unstamped = clear (k .stamp) (l .stamped) (l .stamp);
           replays = l .fits;
           silence = l .fit;

@@ -11,6 +11,8 @@ use Rattle.rules.specs.Data.{Replay, Silence, Memory}
 use Rattle.lib_laws.specs.Cell.{num, flagOf, optionNum, Code, Optional}
 use Rattle.lib_laws.specs.Fields.{cuts}
 use Rattle.lib_laws.specs.Store.{Store, entries, store-zeros}
+use Rattle.node_addr.specs.Layout.{digestLen}
+use Rattle.gates_entry.specs.Layout.{entryWs, silenceWs, atMemoryCount, digestCap, memoryCap, memoryWidth, replayCap, replayWidth, silenceLen}
 use Rattle.gates_entry.specs.Rows.{AnyBytes}
 
 -- the k-th cell
@@ -25,16 +27,13 @@ abbrev pub digestOf : Bytes → Bytes
 digestOf c = c
 
 -- ---- a silence, 287 bytes: known, epoch, count, last, refusing, until, the counted digests
-abbrev pub silenceWs : List ℕ
-silenceWs = 1 ∷ 8 ∷ 4 ∷ 8 ∷ 1 ∷ 8 ∷ 257 ∷ []
-
 abbrev pub silenceFrom : List Bytes → Silence
 silenceFrom fs = record {
   epoch = optionNum (cell fs 0) (cell fs 1);
   count = num (cell fs 2);
   last = num (cell fs 3);
   until = optionNum (cell fs 4) (cell fs 5);
-  counted = entries digestOf 32 8 (cell fs 6);
+  counted = entries digestOf digestLen digestCap (cell fs 6);
 }
 
 unfoldable pub silenceOf : Bytes → Silence
@@ -43,21 +42,18 @@ silenceOf c = silenceFrom (cuts 0 0 silenceWs c)
 pub record SilenceCells (fs : List Bytes) : Type 0 where
   pub epoch : Optional 8 (cell fs 0) (cell fs 1)
   pub until : Optional 8 (cell fs 4) (cell fs 5)
-  pub counted : Store AnyBytes 32 8 (cell fs 6)
+  pub counted : Store AnyBytes digestLen digestCap (cell fs 6)
 
 -- the canonical form: flags 0 or 1, zeros past the count and for what is absent
 pub record FitSilenceCell (c : Bytes) : Type 0 where
   pub cells : SilenceCells (cuts 0 0 silenceWs c)
 
 -- ---- an entry: peer, stamped, stamp, silent, the silence, the replays
-abbrev pub entryWs : List ℕ
-entryWs = 16 ∷ 1 ∷ 8 ∷ 1 ∷ 287 ∷ 321 ∷ []
-
 abbrev pub entryFrom : List Bytes → Memory
 entryFrom fs = record {
   peer = cell fs 0;
   stamp = optionNum (cell fs 1) (cell fs 2);
-  replays = entries replayOf 40 8 (cell fs 5);
+  replays = entries replayOf replayWidth replayCap (cell fs 5);
   silence = if flagOf (cell fs 3) then some (silenceOf (cell fs 4)) else none;
 }
 
@@ -68,24 +64,24 @@ pub record FitCells (fs : List Bytes) : Type 0 where
   pub stamp : Optional 8 (cell fs 1) (cell fs 2)
   pub silent : Code 2 (cell fs 3)
   pub silence : FitSilenceCell (cell fs 4)
-  pub quiet : flagOf (cell fs 3) ≡ false → cell fs 4 ≡ replicate 287 0
-  pub replays : Store AnyBytes 40 8 (cell fs 5)
+  pub quiet : flagOf (cell fs 3) ≡ false → cell fs 4 ≡ replicate silenceLen 0
+  pub replays : Store AnyBytes replayWidth replayCap (cell fs 5)
 
 abbrev pub FitEntry : Bytes → Type 0
 FitEntry c = FitCells (cuts 0 0 entryWs c)
 
 -- ---- the region
 abbrev pub viewGates : Bytes → List Memory
-viewGates s = entries entryOf 634 32 s
+viewGates s = entries entryOf memoryWidth memoryCap s
 
 abbrev pub FitGates : Bytes → Type 0
-FitGates s = Store FitEntry 634 32 s
+FitGates s = Store FitEntry memoryWidth memoryCap s
 
 abbrev pub gateCount : Bytes → ℕ
-gateCount s = getD s 20288 0
+gateCount s = getD s atMemoryCount 0
 
 abbrev pub noMemory : Memory
-noMemory = entryOf (replicate 634 0)
+noMemory = entryOf (replicate memoryWidth 0)
 
 -- the i-th memory
 abbrev pub memoryAt : Bytes → ℕ → Memory
@@ -95,14 +91,14 @@ memoryAt s i = getD (viewGates s) i noMemory
 no-number : Optional 8 (0 ∷ []) (replicate 8 0)
 no-number = record { flag = record { size = refl; low = lit< tt }; size = refl; blank = λ e. refl }
 
-pub fit-zero-silence : FitSilenceCell (replicate 287 0)
-fit-zero-silence = record { cells = record { epoch = no-number; until = no-number; counted = store-zeros AnyBytes 32 8 tt } }
+pub fit-zero-silence : FitSilenceCell (replicate silenceLen 0)
+fit-zero-silence = record { cells = record { epoch = no-number; until = no-number; counted = store-zeros AnyBytes digestLen digestCap tt } }
 
-pub fit-zeros : FitEntry (replicate 634 0)
+pub fit-zeros : FitEntry (replicate memoryWidth 0)
 fit-zeros = record {
   stamp = no-number;
   silent = record { size = refl; low = lit< tt };
   silence = fit-zero-silence;
   quiet = λ e. refl;
-  replays = store-zeros AnyBytes 40 8 tt;
+  replays = store-zeros AnyBytes replayWidth replayCap tt;
 }

@@ -1,3 +1,4 @@
 // What is remembered of a peer in lent memory: the entry of a memory, 634 bytes, read and written.
+pub mod layout;
 pub mod load;
 pub mod put;

@@ -1,4 +1,20 @@
 // A memory read from its entry.
+use crate::layout::COUNT;
+use crate::layout::COUNTED;
+use crate::layout::DIGEST_COUNT;
+use crate::layout::EPOCH;
+use crate::layout::HAS_SILENCE;
+use crate::layout::HAS_STAMP;
+use crate::layout::HAS_UNTIL;
+use crate::layout::LAST;
+use crate::layout::MEMORY_WIDTH;
+use crate::layout::REPLAY_COUNT;
+use crate::layout::REPLAY_WIDTH;
+use crate::layout::REPLAYS;
+use crate::layout::SEEN;
+use crate::layout::SILENCE;
+use crate::layout::STAMP;
+use crate::layout::UNTIL;
 use gates_types::Digests;
 use gates_types::Memory;
 use gates_types::Replay;
@@ -8,8 +24,11 @@ use gates_types::blank_silence;
 use gates_types::no_digests;
 use gates_types::no_replays;
 use lib_bytes::flag::get_flag;
+use lib_bytes::layout::U32;
+use lib_bytes::layout::U64;
 use lib_bytes::read::get_be;
 use lib_region::count;
+use node_addr::layout::DIGEST_LEN;
 use node_addr::place::load_digest;
 use node_addr::place::load_node;
 ghost use mathlib.Core.Path.{_≡_};
@@ -21,6 +40,8 @@ ghost use Rattle.gates_types.specs.View.{optional, viewReplays, viewDigests, vi
 ghost use Rattle.gates_entry.specs.Rows.{AnyBytes};
 ghost use Rattle.gates_entry.specs.View.{replayOf, digestOf, silenceOf, FitSilenceCell, FitGates, gateCount, memoryAt};
 ghost use Rattle.gates_entry.specs.Entry.{replayAt};
+ghost use Rattle.gates_entry.specs.Layout.{digestCap, digestsLen, replayCap, replayWidth, replaysLen, silenceLen};
+ghost use Rattle.node_addr.specs.Layout.{digestLen};
 
 // A replay of 40 bytes.
 fn load_replay(s: &[u8], at: usize) -> Replay
@@ -29,7 +50,7 @@ fn load_replay(s: &[u8], at: usize) -> Replay
     ensures { λ r. ⌜ r ≡ replayAt (now (s .entry)) at ⌝ }
 {
     let d = load_digest(s, at);
-    let seen = get_be(s, at + 32, 8);
+    let seen = get_be(s, at + SEEN, U64);
     Replay {
         digest: d,
         seen: seen,
@@ -38,16 +59,16 @@ fn load_replay(s: &[u8], at: usize) -> Replay
 
 // The replays of an entry, 321 bytes.
 fn load_replays(s: &[u8], at: usize) -> Replays
-    requires { ⌜ at + 321 ≤ length (now s) ⌝ }
-    requires { ⌜ Store AnyBytes 40 8 (take 321 (drop at (now s))) ⌝ }
+    requires { ⌜ at + replaysLen ≤ length (now s) ⌝ }
+    requires { ⌜ Store AnyBytes replayWidth replayCap (take replaysLen (drop at (now s))) ⌝ }
     ensures { λ r. ⌜ FitReplays r ⌝ }
-    ensures { λ r. ⌜ viewReplays r ≡ entries replayOf 40 8 (take 321 (drop at (now (s .entry)))) ⌝ }
+    ensures { λ r. ⌜ viewReplays r ≡ entries replayOf replayWidth replayCap (take replaysLen (drop at (now (s .entry)))) ⌝ }
 {
-    let n = count(s, at + 320);
+    let n = count(s, at + REPLAY_COUNT);
     let mut out = no_replays();
     let mut i = 0;
     while i < n {
-        let e = load_replay(s, at + i * 40);
+        let e = load_replay(s, at + i * REPLAY_WIDTH);
         out.places[i] = e;
         i += 1;
     }
@@ -57,16 +78,16 @@ fn load_replays(s: &[u8], at: usize) -> Replays
 
 // The counted digests of a silence, 257 bytes.
 fn load_digests(s: &[u8], at: usize) -> Digests
-    requires { ⌜ at + 257 ≤ length (now s) ⌝ }
-    requires { ⌜ Store AnyBytes 32 8 (take 257 (drop at (now s))) ⌝ }
+    requires { ⌜ at + digestsLen ≤ length (now s) ⌝ }
+    requires { ⌜ Store AnyBytes digestLen digestCap (take digestsLen (drop at (now s))) ⌝ }
     ensures { λ r. ⌜ FitDigests r ⌝ }
-    ensures { λ r. ⌜ viewDigests r ≡ entries digestOf 32 8 (take 257 (drop at (now (s .entry)))) ⌝ }
+    ensures { λ r. ⌜ viewDigests r ≡ entries digestOf digestLen digestCap (take digestsLen (drop at (now (s .entry)))) ⌝ }
 {
-    let n = count(s, at + 256);
+    let n = count(s, at + DIGEST_COUNT);
     let mut out = no_digests();
     let mut i = 0;
     while i < n {
-        let d = load_digest(s, at + i * 32);
+        let d = load_digest(s, at + i * DIGEST_LEN);
         out.places[i] = d;
         i += 1;
     }
@@ -76,18 +97,18 @@ fn load_digests(s: &[u8], at: usize) -> Digests
 
 // A silence of 287 bytes.
 fn load_silence(s: &[u8], at: usize) -> Silence
-    requires { ⌜ at + 287 ≤ length (now s) ⌝ }
-    requires { ⌜ FitSilenceCell (take 287 (drop at (now s))) ⌝ }
+    requires { ⌜ at + silenceLen ≤ length (now s) ⌝ }
+    requires { ⌜ FitSilenceCell (take silenceLen (drop at (now s))) ⌝ }
     ensures { λ r. ⌜ FitSilence r ⌝ }
-    ensures { λ r. ⌜ viewSilence r ≡ silenceOf (take 287 (drop at (now (s .entry)))) ⌝ }
+    ensures { λ r. ⌜ viewSilence r ≡ silenceOf (take silenceLen (drop at (now (s .entry)))) ⌝ }
 {
     let known = get_flag(s, at);
-    let epoch = get_be(s, at + 1, 8);
-    let count = get_be(s, at + 9, 4) as u32;
-    let last = get_be(s, at + 13, 8);
-    let refusing = get_flag(s, at + 21);
-    let until = get_be(s, at + 22, 8);
-    let counted = load_digests(s, at + 30);
+    let epoch = get_be(s, at + EPOCH, U64);
+    let count = get_be(s, at + COUNT, U32) as u32;
+    let last = get_be(s, at + LAST, U64);
+    let refusing = get_flag(s, at + HAS_UNTIL);
+    let until = get_be(s, at + UNTIL, U64);
+    let counted = load_digests(s, at + COUNTED);
     Silence {
         known: known,
         epoch: epoch,
@@ -101,11 +122,11 @@ fn load_silence(s: &[u8], at: usize) -> Silence
 
 // The silence, if there is one.
 fn load_silent(s: &[u8], at: usize, silent: bool) -> Silence
-    requires { ⌜ at + 287 ≤ length (now s) ⌝ }
-    requires { ⌜ FitSilenceCell (take 287 (drop at (now s))) ⌝ }
+    requires { ⌜ at + silenceLen ≤ length (now s) ⌝ }
+    requires { ⌜ FitSilenceCell (take silenceLen (drop at (now s))) ⌝ }
     ensures { λ r. ⌜ FitSilence r ⌝ }
     ensures { λ r. ⌜ (silent ≡ false → r ≡ blankSilence) ⌝ }
-    ensures { λ r. ⌜ optional silent (viewSilence r) ≡ optional silent (silenceOf (take 287 (drop at (now (s .entry))))) ⌝ }
+    ensures { λ r. ⌜ optional silent (viewSilence r) ≡ optional silent (silenceOf (take silenceLen (drop at (now (s .entry))))) ⌝ }
 {
     if silent {
         return load_silence(s, at);
@@ -120,13 +141,13 @@ pub fn get_memory(s: &[u8], i: usize) -> Memory
     ensures { λ r. ⌜ FitMemory r ⌝ }
     ensures { λ r. ⌜ viewMemory r ≡ memoryAt (now (s .entry)) i ⌝ }
 {
-    let a = i * 634;
+    let a = i * MEMORY_WIDTH;
     let peer = load_node(s, a);
-    let stamped = get_flag(s, a + 16);
-    let stamp = get_be(s, a + 17, 8);
-    let silent = get_flag(s, a + 25);
-    let silence = load_silent(s, a + 26, silent);
-    let replays = load_replays(s, a + 313);
+    let stamped = get_flag(s, a + HAS_STAMP);
+    let stamp = get_be(s, a + STAMP, U64);
+    let silent = get_flag(s, a + HAS_SILENCE);
+    let silence = load_silent(s, a + SILENCE, silent);
+    let replays = load_replays(s, a + REPLAYS);
     Memory {
         peer: peer,
         stamped: stamped,

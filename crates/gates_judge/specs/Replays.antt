@@ -19,6 +19,7 @@ use Rattle.lib_laws.specs.Chunk.{chunks, length-chunks}
 use Rattle.gates_types.specs.View.{viewReplay}
 use Rattle.gates_entry.specs.View.{replayOf, FitGates, gateCount, memoryAt}
 use Rattle.gates_entry.specs.Entry.{memory-there, memory-here, replay-here, row-count}
+use Rattle.gates_entry.specs.Layout.{atReplayCount, atReplays, atSeen, memoryWidth, replayCap, replayWidth, replaysLen}
 
 -- what the replays that are left say, once k younger than the interval have been passed, none of them the digest's
 abbrev left-of : Params → ℕ → Bytes → ℕ → List Replay → Option Refusal
@@ -30,21 +31,21 @@ pub record Passing (o : Option Refusal) (c : Params) (now : ℕ) (e s : Bytes) (
   pub within : j ≤ n
   pub small : n ≤ 8
   pub few : k ≤ j
-  pub room : at + 321 ≤ length s
-  pub left : o ≡ left-of c now e k (drop j (map replayOf (take n (chunks 40 8 (take 321 (drop at s))))))
+  pub room : at + replaysLen ≤ length s
+  pub left : o ≡ left-of c now e k (drop j (map replayOf (take n (chunks replayWidth replayCap (take replaysLen (drop at s))))))
 
-pub passing-start : (c : Params) (now : ℕ) (e s : Bytes) (i n : ℕ) → FitGates s → i < gateCount s → n ≡ getD s (i * 634 + 313 + 320) 0
-    → Passing (replayed c now e (memoryAt s i)) c now e s (i * 634 + 313) n 0 0
+pub passing-start : (c : Params) (now : ℕ) (e s : Bytes) (i n : ℕ) → FitGates s → i < gateCount s → n ≡ getD s (i * memoryWidth + atReplays + atReplayCount) 0
+    → Passing (replayed c now e (memoryAt s i)) c now e s (i * memoryWidth + atReplays) n 0 0
 unfolding replayed
 passing-start c now e s i n f h q =
-    let m : getD (take 321 (drop (i * 634 + 313) s)) 320 0 ≡ n = row-count 320 s (i * 634 + 313) ∙ sym q in
+    let m : getD (take replaysLen (drop (i * memoryWidth + atReplays) s)) atReplayCount 0 ≡ n = row-count atReplayCount s (i * memoryWidth + atReplays) ∙ sym q in
     let r = memory-there s i f h .replays in
     record {
       within = omega arith;
       small = omega arith;
       few = omega arith;
       room = omega arith;
-      left = ap (replayed c now e) (sym (memory-here s i f h)) ∙ rw m (go (map replayOf (take n (chunks 40 8 (take 321 (drop (i * 634 + 313) s))))));
+      left = ap (replayed c now e) (sym (memory-here s i f h)) ∙ rw m (go (map replayOf (take n (chunks replayWidth replayCap (take replaysLen (drop (i * memoryWidth + atReplays) s))))));
     }
   where
     go : (xs : List Replay)
@@ -53,39 +54,39 @@ passing-start c now e s i n f h q =
 
 module _ {o : Option Refusal} {c : Params} {now : ℕ} {e s : Bytes} {at n j k : ℕ} (a : Passing o c now e s at n j k) where
   -- the one at j
-  here : j < n → drop j (map replayOf (take n (chunks 40 8 (take 321 (drop at s)))))
-      ≡ record { ephemeral = take 32 (drop (at + j * 40) s); seen = num (take 8 (drop (at + j * 40 + 32) s)) } ∷ drop (suc j) (map replayOf (take n (chunks 40 8 (take 321 (drop at s)))))
+  here : j < n → drop j (map replayOf (take n (chunks replayWidth replayCap (take replaysLen (drop at s)))))
+      ≡ record { ephemeral = take 32 (drop (at + j * replayWidth) s); seen = num (take 8 (drop (at + j * replayWidth + atSeen) s)) } ∷ drop (suc j) (map replayOf (take n (chunks replayWidth replayCap (take replaysLen (drop at s)))))
   here h =
-      let l = length-chunks 40 8 (take 321 (drop at s)) in
-      shows-cons replayOf n (chunks 40 8 (take 321 (drop at s))) j [] (omega arith) h
-      ∙ ap (λ (x : Replay). x ∷ drop (suc j) (map replayOf (take n (chunks 40 8 (take 321 (drop at s)))))) (sym (ap viewReplay (replay-here s at j (omega arith) (omega arith))))
+      let l = length-chunks replayWidth replayCap (take replaysLen (drop at s)) in
+      shows-cons replayOf n (chunks replayWidth replayCap (take replaysLen (drop at s))) j [] (omega arith) h
+      ∙ ap (λ (x : Replay). x ∷ drop (suc j) (map replayOf (take n (chunks replayWidth replayCap (take replaysLen (drop at s)))))) (sym (ap viewReplay (replay-here s at j (omega arith) (omega arith))))
 
   module _ (h : j < n) where
-    pub passing-hit : younger (c .interval) now (num (take 8 (drop (at + j * 40 + 32) s))) ≡ true → same e (take 32 (drop (at + j * 40) s)) ≡ true → some Replayed ≡ o
+    pub passing-hit : younger (c .interval) now (num (take 8 (drop (at + j * replayWidth + atSeen) s))) ≡ true → same e (take 32 (drop (at + j * replayWidth) s)) ≡ true → some Replayed ≡ o
     passing-hit y d = sym (a .left ∙ rw (here h, y, d))
 
-    pub passing-live : younger (c .interval) now (num (take 8 (drop (at + j * 40 + 32) s))) ≡ true → same e (take 32 (drop (at + j * 40) s)) ≡ false → Passing o c now e s at n (j + 1) (k + 1)
+    pub passing-live : younger (c .interval) now (num (take 8 (drop (at + j * replayWidth + atSeen) s))) ≡ true → same e (take 32 (drop (at + j * replayWidth) s)) ≡ false → Passing o c now e s at n (j + 1) (k + 1)
     passing-live y d = record {
       within = omega arith;
       small = a .small;
       few = omega arith;
       room = a .room;
-      left = a .left ∙ rw (here h, y, d, add-one j) (go (recentReplays c now (drop (suc j) (map replayOf (take n (chunks 40 8 (take 321 (drop at s))))))));
+      left = a .left ∙ rw (here h, y, d, add-one j) (go (recentReplays c now (drop (suc j) (map replayOf (take n (chunks replayWidth replayCap (take replaysLen (drop at s))))))));
     }
       where
         go : (xs : List Replay) → (if seenIn e xs then some Replayed else (if leb (c .replays) (k + suc (length xs)) then some ReplayFull else none))
             ≡ (if seenIn e xs then some Replayed else (if leb (c .replays) (k + 1 + length xs) then some ReplayFull else none))
         go xs = let z : k + suc (length xs) ≡ k + 1 + length xs = omega arith in rw z
 
-    pub passing-old : younger (c .interval) now (num (take 8 (drop (at + j * 40 + 32) s))) ≡ false → Passing o c now e s at n (j + 1) k
+    pub passing-old : younger (c .interval) now (num (take 8 (drop (at + j * replayWidth + atSeen) s))) ≡ false → Passing o c now e s at n (j + 1) k
     passing-old y = record { within = omega arith; small = a .small; few = omega arith; room = a .room; left = a .left ∙ rw (here h, y, add-one j) }
 
   module _ (h : n ≤ j) where
     passed : o ≡ (if leb (c .replays) k then some ReplayFull else none)
     passed =
-        let l = length-chunks 40 8 (take 321 (drop at s)) in
+        let l = length-chunks replayWidth replayCap (take replaysLen (drop at s)) in
         let z : k + 0 ≡ k = omega arith in
-        a .left ∙ rw (drop-of-length-le (map replayOf (take n (chunks 40 8 (take 321 (drop at s))))) {i = j} (rw (length-shows replayOf n (chunks 40 8 (take 321 (drop at s))) (omega arith)) h), z)
+        a .left ∙ rw (drop-of-length-le (map replayOf (take n (chunks replayWidth replayCap (take replaysLen (drop at s))))) {i = j} (rw (length-shows replayOf n (chunks replayWidth replayCap (take replaysLen (drop at s))) (omega arith)) h), z)
 
     pub passing-full : c .replays ≤ k → some ReplayFull ≡ o
     passing-full q = sym (passed ∙ rw (le-leb (c .replays) k q))

@@ -13,6 +13,7 @@ use Rattle.rules.specs.Gates.{blank, differ, recent, silencing, replayed, young
 use Rattle.lib_laws.specs.Cell.{num, flagOf, optionNum}
 use Rattle.gates_entry.specs.View.{silenceFrom, silenceOf, FitGates, gateCount, memoryAt}
 use Rattle.gates_entry.specs.Entry.{memory-here, silence-cuts}
+use Rattle.gates_entry.specs.Layout.{atHasSilence, atHasStamp, atHasUntil, atSilence, atSilenceEpoch, atStamp, atUntil, memoryWidth, silenceLen}
 
 -- ---- silences
 abbrev refuses : ℕ → ℕ → Silence → Bool
@@ -35,18 +36,18 @@ refuses-by e now u n true true = ap (λ (b : Bool). ltb now u && b) (go (eqb n e
 
 module _ (s : Bytes) (i : ℕ) (f : FitGates s) (h : i < gateCount s) where
   pub silencing-is : (e now : ℕ) → silencing (some e) now (memoryAt s i)
-      ≡ flagOf (take 1 (drop (i * 634 + 25) s)) && (flagOf (take 1 (drop (i * 634 + 26 + 21) s)) && (ltb now (num (take 8 (drop (i * 634 + 26 + 22) s))) && (not (flagOf (take 1 (drop (i * 634 + 26) s))) || eqb (num (take 8 (drop (i * 634 + 26 + 1) s))) e)))
+      ≡ flagOf (take 1 (drop (i * memoryWidth + atHasSilence) s)) && (flagOf (take 1 (drop (i * memoryWidth + atSilence + atHasUntil) s)) && (ltb now (num (take 8 (drop (i * memoryWidth + atSilence + atUntil) s))) && (not (flagOf (take 1 (drop (i * memoryWidth + atSilence) s))) || eqb (num (take 8 (drop (i * memoryWidth + atSilence + atSilenceEpoch) s))) e)))
   unfolding silencing silenceOf
   silencing-is e now =
-      let z : i * 634 + 26 + 0 ≡ i * 634 + 26 = add-zero (i * 634 + 26) in
+      let z : i * memoryWidth + atSilence + 0 ≡ i * memoryWidth + atSilence = add-zero (i * memoryWidth + atSilence) in
       ap (silencing (some e) now) (sym (memory-here s i f h))
-      ∙ refuses-if e now (flagOf (take 1 (drop (i * 634 + 25) s))) (silenceOf (take 287 (drop (i * 634 + 26) s)))
-      ∙ ap (λ (x : Silence). flagOf (take 1 (drop (i * 634 + 25) s)) && refuses e now x) (ap silenceFrom (silence-cuts s (i * 634 + 26)))
-      ∙ rw (z, refuses-by e now (num (take 8 (drop (i * 634 + 26 + 22) s))) (num (take 8 (drop (i * 634 + 26 + 1) s))) (flagOf (take 1 (drop (i * 634 + 26 + 21) s))) (flagOf (take 1 (drop (i * 634 + 26) s))))
+      ∙ refuses-if e now (flagOf (take 1 (drop (i * memoryWidth + atHasSilence) s))) (silenceOf (take silenceLen (drop (i * memoryWidth + atSilence) s)))
+      ∙ ap (λ (x : Silence). flagOf (take 1 (drop (i * memoryWidth + atHasSilence) s)) && refuses e now x) (ap silenceFrom (silence-cuts s (i * memoryWidth + atSilence)))
+      ∙ rw (z, refuses-by e now (num (take 8 (drop (i * memoryWidth + atSilence + atUntil) s))) (num (take 8 (drop (i * memoryWidth + atSilence + atSilenceEpoch) s))) (flagOf (take 1 (drop (i * memoryWidth + atSilence + atHasUntil) s))) (flagOf (take 1 (drop (i * memoryWidth + atSilence) s))))
 
   -- ---- the stamp
   pub dampened-is : (c : Params) (now : ℕ) → dampened c now (memoryAt s i)
-      ≡ (if option (optionNum (take 1 (drop (i * 634 + 16) s)) (take 8 (drop (i * 634 + 17) s))) false (λ x. recent c now x) then some Dampened else none)
+      ≡ (if option (optionNum (take 1 (drop (i * memoryWidth + atHasStamp) s)) (take 8 (drop (i * memoryWidth + atStamp) s))) false (λ x. recent c now x) then some Dampened else none)
   unfolding dampened
   dampened-is c now = ap (dampened c now) (sym (memory-here s i f h))
 

@@ -1,4 +1,16 @@
 // The judgement of a msg1, from what is remembered of its peer where that stands.
+use gates_entry::layout::EPOCH;
+use gates_entry::layout::HAS_SILENCE;
+use gates_entry::layout::HAS_STAMP;
+use gates_entry::layout::HAS_UNTIL;
+use gates_entry::layout::MEMORY_WIDTH;
+use gates_entry::layout::REPLAY_COUNT;
+use gates_entry::layout::REPLAY_WIDTH;
+use gates_entry::layout::REPLAYS;
+use gates_entry::layout::SEEN;
+use gates_entry::layout::SILENCE;
+use gates_entry::layout::STAMP;
+use gates_entry::layout::UNTIL;
 use gates_types::Liveness;
 use gates_types::Refusal;
 use gates_types::Source;
@@ -27,20 +39,20 @@ fn silencing(s: &[u8], i: usize, epoch: u64, clock: u64) -> bool
     requires { ⌜ i < gateCount (now s) ⌝ }
     ensures { λ r. ⌜ r ≡ rule.silencing (some epoch) clock (memoryAt (now (s .entry)) i) ⌝ }
 {
-    if !get_flag(s, i * 634 + 25) {
+    if !get_flag(s, i * MEMORY_WIDTH + HAS_SILENCE) {
         return false;
     }
-    let a = i * 634 + 26;
-    if !get_flag(s, a + 21) {
+    let a = i * MEMORY_WIDTH + SILENCE;
+    if !get_flag(s, a + HAS_UNTIL) {
         return false;
     }
-    if get_8(s, a + 22) <= clock {
+    if get_8(s, a + UNTIL) <= clock {
         return false;
     }
     if !get_flag(s, a) {
         return true;
     }
-    get_8(s, a + 1) == epoch
+    get_8(s, a + EPOCH) == epoch
 }
 
 // Whether they refuse what asks.
@@ -87,13 +99,13 @@ fn replayed(s: &[u8], i: usize, digest: Digest, clock: u64, c: Params) -> Verdic
     requires { ⌜ i < gateCount (now s) ⌝ }
     ensures { λ r. ⌜ refusedBy r ≡ rule.replayed (viewParams c) clock (digest .0) (memoryAt (now (s .entry)) i) ⌝ }
 {
-    let at = i * 634 + 313;
-    let n = count(s, at + 320);
+    let at = i * MEMORY_WIDTH + REPLAYS;
+    let n = count(s, at + REPLAY_COUNT);
     let mut live: usize = 0;
     let mut j = 0;
     while j < n {
-        let e = at + j * 40;
-        if younger(c.interval, clock, get_8(s, e + 32)) {
+        let e = at + j * REPLAY_WIDTH;
+        if younger(c.interval, clock, get_8(s, e + SEEN)) {
             if digest_here(s, e, digest) {
                 return Verdict::Refuse(Refusal::Replayed);
             }
@@ -159,11 +171,11 @@ fn dampened(s: &[u8], i: usize, clock: u64, c: Params) -> Verdict
     requires { ⌜ i < gateCount (now s) ⌝ }
     ensures { λ r. ⌜ refusedBy r ≡ rule.dampened (viewParams c) clock (memoryAt (now (s .entry)) i) ⌝ }
 {
-    let a = i * 634;
-    if !get_flag(s, a + 16) {
+    let a = i * MEMORY_WIDTH;
+    if !get_flag(s, a + HAS_STAMP) {
         return Verdict::Pass;
     }
-    if younger(c.interval, clock, get_8(s, a + 17)) {
+    if younger(c.interval, clock, get_8(s, a + STAMP)) {
         return Verdict::Refuse(Refusal::Dampened);
     }
     Verdict::Pass

@@ -11,6 +11,8 @@ use Rattle.rules.specs.Data.{Pair, samePair, Held}
 use Rattle.rules.specs.Settle.{named}
 use Rattle.lib_laws.specs.Cell.{num, flagOf, orBlank}
 use Rattle.node_addr.specs.Place.{pairOf, PairCell}
+use Rattle.node_addr.specs.Layout.{pairWidth}
+use Rattle.held.specs.Layout.{atCurrent, atHasLast, atHasSetup, atHeard, atHeldEpoch, atHeldLink, atHeldSetup, atInstalled, atLast, heldWidth}
 use Rattle.held.specs.View.{FitHeld, heldCount, nthHeld, lastHeard, setupOf}
 use Rattle.held.specs.Entry.{num-zeros, fit-here, held-here}
 
@@ -28,48 +30,48 @@ abbrev pub precedes : Bytes → Held → Bool
 precedes p h = before p (h .peer)
 
 module _ {s : Bytes} {i : ℕ} (f : FitHeld s) (h : i < heldCount s) where
-  pub peer-here : take 16 (drop (i * 136) s) ≡ nthHeld s i .peer
-  peer-here = ap (λ (a : ℕ). take 16 (drop a s)) (sym (add-zero (i * 136))) ∙ ap (λ (k : Held). k .peer) (held-here s i f h)
+  pub peer-here : take 16 (drop (i * heldWidth) s) ≡ nthHeld s i .peer
+  peer-here = ap (λ (a : ℕ). take 16 (drop a s)) (sym (add-zero (i * heldWidth))) ∙ ap (λ (k : Held). k .peer) (held-here s i f h)
 
-  pub named-here : {r : Bool} (p : Bytes) → r ≡ same p (take 16 (drop (i * 136) s)) → r ≡ named p (nthHeld s i)
+  pub named-here : {r : Bool} (p : Bytes) → r ≡ same p (take 16 (drop (i * heldWidth) s)) → r ≡ named p (nthHeld s i)
   named-here p e = e ∙ ap (same p) peer-here
 
-  pub precedes-here : {r : Bool} (p : Bytes) → r ≡ before p (take 16 (drop (i * 136) s)) → r ≡ precedes p (nthHeld s i)
+  pub precedes-here : {r : Bool} (p : Bytes) → r ≡ before p (take 16 (drop (i * heldWidth) s)) → r ≡ precedes p (nthHeld s i)
   precedes-here p e = e ∙ ap (before p) peer-here
 
-  pub link-here : num (take 8 (drop (i * 136 + 16) s)) ≡ nthHeld s i .link
+  pub link-here : num (take 8 (drop (i * heldWidth + atHeldLink) s)) ≡ nthHeld s i .link
   link-here = ap (λ (k : Held). k .link) (held-here s i f h)
 
-  pub epoch-here : num (take 8 (drop (i * 136 + 24) s)) ≡ nthHeld s i .epoch
+  pub epoch-here : num (take 8 (drop (i * heldWidth + atHeldEpoch) s)) ≡ nthHeld s i .epoch
   epoch-here = ap (λ (k : Held). k .epoch) (held-here s i f h)
 
-  pub installed-here : num (take 8 (drop (i * 136 + 32) s)) ≡ nthHeld s i .installed
+  pub installed-here : num (take 8 (drop (i * heldWidth + atInstalled) s)) ≡ nthHeld s i .installed
   installed-here = ap (λ (k : Held). k .installed) (held-here s i f h)
 
-  pub heard-here : flagOf (take 1 (drop (i * 136 + 40) s)) ≡ nthHeld s i .heard
+  pub heard-here : flagOf (take 1 (drop (i * heldWidth + atHeard) s)) ≡ nthHeld s i .heard
   heard-here = ap (λ (k : Held). k .heard) (held-here s i f h)
 
-  pub dated-here : flagOf (take 1 (drop (i * 136 + 41) s)) ≡ is (nthHeld s i .last)
-  dated-here = is-flag (flagOf (take 1 (drop (i * 136 + 41) s))) (num (take 8 (drop (i * 136 + 42) s))) ∙ ap (λ (k : Held). is (k .last)) (held-here s i f h)
+  pub dated-here : flagOf (take 1 (drop (i * heldWidth + atHasLast) s)) ≡ is (nthHeld s i .last)
+  dated-here = is-flag (flagOf (take 1 (drop (i * heldWidth + atHasLast) s))) (num (take 8 (drop (i * heldWidth + atLast) s))) ∙ ap (λ (k : Held). is (k .last)) (held-here s i f h)
 
-  pub last-here : num (take 8 (drop (i * 136 + 42) s)) ≡ lastHeard (nthHeld s i)
+  pub last-here : num (take 8 (drop (i * heldWidth + atLast) s)) ≡ lastHeard (nthHeld s i)
   last-here =
-      value-is (flagOf (take 1 (drop (i * 136 + 41) s))) (num (take 8 (drop (i * 136 + 42) s))) 0 (λ e. ap num (fit-here s i f h .last .blank e) ∙ num-zeros)
+      value-is (flagOf (take 1 (drop (i * heldWidth + atHasLast) s))) (num (take 8 (drop (i * heldWidth + atLast) s))) 0 (λ e. ap num (fit-here s i f h .last .blank e) ∙ num-zeros)
       ∙ ap lastHeard (held-here s i f h)
 
-  pub answered-here : flagOf (take 1 (drop (i * 136 + 50) s)) ≡ is (nthHeld s i .setup)
-  answered-here = is-flag (flagOf (take 1 (drop (i * 136 + 50) s))) (take 32 (drop (i * 136 + 51) s)) ∙ ap (λ (k : Held). is (k .setup)) (held-here s i f h)
+  pub answered-here : flagOf (take 1 (drop (i * heldWidth + atHasSetup) s)) ≡ is (nthHeld s i .setup)
+  answered-here = is-flag (flagOf (take 1 (drop (i * heldWidth + atHasSetup) s))) (take 32 (drop (i * heldWidth + atHeldSetup) s)) ∙ ap (λ (k : Held). is (k .setup)) (held-here s i f h)
 
-  pub setup-here : take 32 (drop (i * 136 + 51) s) ≡ setupOf (nthHeld s i)
+  pub setup-here : take 32 (drop (i * heldWidth + atHeldSetup) s) ≡ setupOf (nthHeld s i)
   setup-here =
-      value-is (flagOf (take 1 (drop (i * 136 + 50) s))) (take 32 (drop (i * 136 + 51) s)) (replicate 32 0) (fit-here s i f h .setup .blank)
+      value-is (flagOf (take 1 (drop (i * heldWidth + atHasSetup) s))) (take 32 (drop (i * heldWidth + atHeldSetup) s)) (replicate 32 0) (fit-here s i f h .setup .blank)
       ∙ ap setupOf (held-here s i f h)
 
-  pub current-here : pairOf (take 53 (drop (i * 136 + 83) s)) ≡ nthHeld s i .current
+  pub current-here : pairOf (take pairWidth (drop (i * heldWidth + atCurrent) s)) ≡ nthHeld s i .current
   current-here = ap (λ (k : Held). k .current) (held-here s i f h)
 
-  pub current-beside : {r : Bool} (p : Pair) → r ≡ samePair p (pairOf (take 53 (drop (i * 136 + 83) s))) → r ≡ samePair p (nthHeld s i .current)
+  pub current-beside : {r : Bool} (p : Pair) → r ≡ samePair p (pairOf (take pairWidth (drop (i * heldWidth + atCurrent) s))) → r ≡ samePair p (nthHeld s i .current)
   current-beside p e = e ∙ ap (samePair p) current-here
 
-  pub current-cell : PairCell (take 53 (drop (i * 136 + 83) s))
+  pub current-cell : PairCell (take pairWidth (drop (i * heldWidth + atCurrent) s))
   current-cell = fit-here s i f h .current

@@ -24,7 +24,9 @@ use Rattle.lib_laws.specs.Store.{changed-is}
 use Rattle.node_addr.specs.View.{viewPair, FitPair}
 use Rattle.node_addr.specs.Place.{pairCell, pair-cell-length, pair-cell-fit, pair-cell-shows}
 use Rattle.node_addr.specs.declared.Pair as pair
-use Rattle.held.specs.View.{heldWs, heldFrom, heldOf, FitCells, FitHeldCell, viewHeld, FitHeld, heldCount, noHeld, nthHeld}
+use Rattle.node_addr.specs.Layout.{pairWidth}
+use Rattle.held.specs.Layout.{heldWs, atCurrent, atHasLast, atHeard, atHeldEpoch, atHeldLink, heldWidth}
+use Rattle.held.specs.View.{heldFrom, heldOf, FitCells, FitHeldCell, viewHeld, FitHeld, heldCount, noHeld, nthHeld}
 use Rattle.held.specs.Entry.{optional-number}
 use Rattle.held.specs.Walk.{count-is}
 
@@ -57,7 +59,7 @@ changed-then {g} {k} {i} {s} {l} f h a b =
     record { fit = b .fit; count = b .count ∙ a .count; is = b .is ∙ rw (x, a .is) (set-set (viewHeld s) i (g (nthHeld s i)) (k (g (nthHeld s i)))) }
 
 -- ---- in one entry
-module _ (c : Bytes) (z : length c ≡ 136) where
+module _ (c : Bytes) (z : length c ≡ heldWidth) where
   link-cuts : (v : ℕ) → cuts 0 0 heldWs (splice c 16 (digits 8 v)) ≡ set (cuts 0 0 heldWs c) 1 (digits 8 v)
   unfolding sum
   link-cuts v = cuts-set 0 0 heldWs c 1 16 (digits 8 v) (lit< tt) (omega arith) (length-digits 8 v) refl
@@ -91,7 +93,7 @@ module _ (c : Bytes) (z : length c ≡ 136) where
   last-cuts : (v : ℕ) → cuts 0 0 heldWs (splice c 41 ((1 ∷ []) ++ digits 8 v)) ≡ set (set (cuts 0 0 heldWs c) 5 (1 ∷ [])) 6 (digits 8 v)
   unfolding sum
   last-cuts v =
-      let y : length (splice c 41 (1 ∷ [])) ≡ 136 = length-splice c 41 (1 ∷ []) (omega arith) ∙ z in
+      let y : length (splice c 41 (1 ∷ [])) ≡ heldWidth = length-splice c 41 (1 ∷ []) (omega arith) ∙ z in
       ap (cuts 0 0 heldWs) (sym (splice-splice c 41 (1 ∷ []) (digits 8 v) (omega arith)))
       ∙ cuts-set 0 0 heldWs (splice c 41 (1 ∷ [])) 6 42 (digits 8 v) (lit< tt) (omega arith) (length-digits 8 v) refl
       ∙ ap (λ (x : List Bytes). set x 6 (digits 8 v)) (cuts-set 0 0 heldWs c 5 41 (1 ∷ []) (lit< tt) (omega arith) refl refl)
@@ -115,20 +117,20 @@ module _ (c : Bytes) (z : length c ≡ 136) where
 
 -- ---- the same of the region
 module _ {s l : Bytes} {q : ℕ} (i : ℕ) where
-  pub link-changed : {v : ℕ} → Wrote s (i * 136 + 16) 8 (digits 8 v) l q → FitHeld s → i < heldCount s → Fits w64 v → Changed (withLink v) i s l
+  pub link-changed : {v : ℕ} → Wrote s (i * heldWidth + atHeldLink) 8 (digits 8 v) l q → FitHeld s → i < heldCount s → Fits w64 v → Changed (withLink v) i s l
   link-changed {v} a f h b = changed f (changed-is heldOf (withLink v) i 16 noHeld a f h (lit≤ tt) (λ c z k. link-keeps c z v k) (λ c z. link-shows c z v b))
 
-  pub epoch-changed : {v : ℕ} → Wrote s (i * 136 + 24) 8 (digits 8 v) l q → FitHeld s → i < heldCount s → Fits w64 v
+  pub epoch-changed : {v : ℕ} → Wrote s (i * heldWidth + atHeldEpoch) 8 (digits 8 v) l q → FitHeld s → i < heldCount s → Fits w64 v
       → FitHeld l × (viewHeld l ≡ set (viewHeld s) i (withEpoch v (nthHeld s i)))
   epoch-changed {v} a f h b = changed-is heldOf (withEpoch v) i 24 noHeld a f h (lit≤ tt) (λ c z k. epoch-keeps c z v k) (λ c z. epoch-shows c z v b)
 
-  pub heard-changed : (b : Bool) → Wrote s (i * 136 + 40) 1 (one b ∷ []) l q → FitHeld s → i < heldCount s → Changed (withHeard b) i s l
+  pub heard-changed : (b : Bool) → Wrote s (i * heldWidth + atHeard) 1 (one b ∷ []) l q → FitHeld s → i < heldCount s → Changed (withHeard b) i s l
   heard-changed b a f h = changed f (changed-is heldOf (withHeard b) i 40 noHeld a f h (lit≤ tt) (λ c z k. heard-keeps c z b k) (λ c z. heard-shows c z b))
 
-  pub last-changed : {v : ℕ} → Wrote s (i * 136 + 41) 9 ((1 ∷ []) ++ digits 8 v) l q → FitHeld s → i < heldCount s → Fits w64 v → Changed (lastAt v) i s l
+  pub last-changed : {v : ℕ} → Wrote s (i * heldWidth + atHasLast) 9 ((1 ∷ []) ++ digits 8 v) l q → FitHeld s → i < heldCount s → Fits w64 v → Changed (lastAt v) i s l
   last-changed {v} a f h b = changed f (changed-is heldOf (lastAt v) i 41 noHeld a f h (lit≤ tt) (λ c z k. last-keeps c z v k) (λ c z. last-shows c z v b))
 
-  pub current-changed : {p : pair.Pair} → FitPair p → Wrote s (i * 136 + 83) 53 (pairCell p) l q → FitHeld s → i < heldCount s → Fits w32 (p .transport .0)
+  pub current-changed : {p : pair.Pair} → FitPair p → Wrote s (i * heldWidth + atCurrent) pairWidth (pairCell p) l q → FitHeld s → i < heldCount s → Fits w32 (p .transport .0)
       → Changed (withCurrent (viewPair p)) i s l
   current-changed {p} k a f h b =
       changed f (changed-is heldOf (withCurrent (viewPair p)) i 83 noHeld a f h (lit≤ tt) (λ c z y. current-keeps c z k y) (λ c z. current-shows c z k b))

@@ -20,8 +20,10 @@ use Rattle.lib_laws.specs.Chunk.{chunks, joined}
 use Rattle.lib_laws.specs.Fields.{cuts, cuts-at, cuts-joined, sum}
 use Rattle.node_addr.specs.View.{FitPair, viewPair}
 use Rattle.node_addr.specs.Place.{pairOf, pairCell, pair-cell-length, pair-cell-fit, pair-cell-shows}
+use Rattle.node_addr.specs.Layout.{pairWidth}
+use Rattle.held.specs.Layout.{heldWs, atCurrent, atHasLast, atHasSetup, atHeard, atHeldEpoch, atHeldLink, atHeldSetup, atInstalled, atLast, heldCap, heldWidth}
 use Rattle.held.specs.declared.record.Held as held
-use Rattle.held.specs.View.{heldWs, heldFrom, heldOf, FitCells, FitHeldCell, FitHeld, heldCount, noHeld, nthHeld, viewRec, FitRec}
+use Rattle.held.specs.View.{heldFrom, heldOf, FitCells, FitHeldCell, FitHeld, heldCount, noHeld, nthHeld, viewRec, FitRec}
 
 -- ---- what is written
 abbrev pub heldFields : held.Held → List Bytes
@@ -42,8 +44,8 @@ bytes-are : (h : held.Held) → frontBytes h ++ backBytes h ≡ heldBytes h
 unfolding heldBytes joined
 bytes-are h = simp (append-assoc, append-nil)
 
-pub put-held-is : (h : held.Held) {xs : Bytes} {at : ℕ} {ys : Bytes} {r : ℕ} → Wrote xs at 136 (frontBytes h ++ backBytes h) ys r → Wrote xs at 136 (heldBytes h) ys r
-put-held-is h {xs} {at} {ys} {r} w = subst (λ (b : Bytes). Wrote xs at 136 b ys r) (bytes-are h) w
+pub put-held-is : (h : held.Held) {xs : Bytes} {at : ℕ} {ys : Bytes} {r : ℕ} → Wrote xs at heldWidth (frontBytes h ++ backBytes h) ys r → Wrote xs at heldWidth (heldBytes h) ys r
+put-held-is h {xs} {at} {ys} {r} w = subst (λ (b : Bytes). Wrote xs at heldWidth b ys r) (bytes-are h) w
 
 -- ---- what was written is read
 widths : (h : held.Held) → FitRec h → map length (heldFields h) ≡ heldWs
@@ -105,29 +107,29 @@ held-bytes h f b =
     )
 
 -- ---- the cells of the i-th held peer, where they stand
-pub cells-here : (s : Bytes) (i : ℕ) → FitHeld s → i < heldCount s → cuts (i * 136) 0 heldWs s ≡ cuts 0 0 heldWs (getD (chunks 136 32 s) i [])
+pub cells-here : (s : Bytes) (i : ℕ) → FitHeld s → i < heldCount s → cuts (i * heldWidth) 0 heldWs s ≡ cuts 0 0 heldWs (getD (chunks heldWidth heldCap s) i [])
 unfolding sum
-cells-here s i f h = cuts-at 136 32 s i [] 0 heldWs (omega arith) (lit≤ tt) (omega arith)
+cells-here s i f h = cuts-at heldWidth heldCap s i [] 0 heldWs (omega arith) (lit≤ tt) (omega arith)
 
-pub fit-here : (s : Bytes) (i : ℕ) → FitHeld s → i < heldCount s → FitCells (cuts (i * 136) 0 heldWs s)
+pub fit-here : (s : Bytes) (i : ℕ) → FitHeld s → i < heldCount s → FitCells (cuts (i * heldWidth) 0 heldWs s)
 fit-here s i f h = subst FitCells (sym (cells-here s i f h)) (fit-at heldOf i [] (f .kept) h)
 
-pub held-here : (s : Bytes) (i : ℕ) → FitHeld s → i < heldCount s → heldFrom (cuts (i * 136) 0 heldWs s) ≡ nthHeld s i
+pub held-here : (s : Bytes) (i : ℕ) → FitHeld s → i < heldCount s → heldFrom (cuts (i * heldWidth) 0 heldWs s) ≡ nthHeld s i
 held-here s i f h = ap heldFrom (cells-here s i f h) ∙ shown heldOf i [] noHeld (f .kept) h
 
 -- h was read at a
 pub record Loaded (h : held.Held) (a : ℕ) (s : Bytes) : Type 0 where
   pub peer : h .peer .0 ≡ take 16 (drop a s)
-  pub link : h .link .0 ≡ num (take 8 (drop (a + 16) s))
-  pub epoch : h .epoch ≡ num (take 8 (drop (a + 24) s))
-  pub installed : h .installed ≡ num (take 8 (drop (a + 32) s))
-  pub heard : h .heard ≡ flagOf (take 1 (drop (a + 40) s))
-  pub dated : h .dated ≡ flagOf (take 1 (drop (a + 41) s))
-  pub last : h .last ≡ num (take 8 (drop (a + 42) s))
-  pub answered : h .answered ≡ flagOf (take 1 (drop (a + 50) s))
-  pub setup : h .setup .0 ≡ take 32 (drop (a + 51) s)
+  pub link : h .link .0 ≡ num (take 8 (drop (a + atHeldLink) s))
+  pub epoch : h .epoch ≡ num (take 8 (drop (a + atHeldEpoch) s))
+  pub installed : h .installed ≡ num (take 8 (drop (a + atInstalled) s))
+  pub heard : h .heard ≡ flagOf (take 1 (drop (a + atHeard) s))
+  pub dated : h .dated ≡ flagOf (take 1 (drop (a + atHasLast) s))
+  pub last : h .last ≡ num (take 8 (drop (a + atLast) s))
+  pub answered : h .answered ≡ flagOf (take 1 (drop (a + atHasSetup) s))
+  pub setup : h .setup .0 ≡ take 32 (drop (a + atHeldSetup) s)
   pub fit : FitPair (h .current)
-  pub current : viewPair (h .current) ≡ pairOf (take 53 (drop (a + 83) s))
+  pub current : viewPair (h .current) ≡ pairOf (take pairWidth (drop (a + atCurrent) s))
 
 -- where the flag is not set
 clear : {f s : Bytes} {w : ℕ} {b : Bool} → Optional w f s → b ≡ flagOf f → b ≡ false → s ≡ replicate w 0
@@ -137,14 +139,14 @@ pub num-zeros : num (replicate 8 0) ≡ 0
 unfolding more
 num-zeros = refl
 
-pub held-loaded : (s : Bytes) (i : ℕ) (h : held.Held) → FitHeld s → i < heldCount s → Loaded h (i * 136) s → FitRec h × (viewRec h ≡ nthHeld s i)
+pub held-loaded : (s : Bytes) (i : ℕ) (h : held.Held) → FitHeld s → i < heldCount s → Loaded h (i * heldWidth) s → FitRec h × (viewRec h ≡ nthHeld s i)
 held-loaded s i h f l r =
-    let z : i * 136 + 0 ≡ i * 136 = add-zero (i * 136) in
+    let z : i * heldWidth + 0 ≡ i * heldWidth = add-zero (i * heldWidth) in
     let k = fit-here s i f l in
-    let v : viewRec h ≡ heldFrom (cuts (i * 136) 0 heldWs s) =
+    let v : viewRec h ≡ heldFrom (cuts (i * heldWidth) 0 heldWs s) =
     rw (r .peer, r .link, r .epoch, r .installed, r .heard, r .dated, r .last, r .answered, r .setup, r .current, z) in (
       record {
-        peer = rw (r .peer) (length-take-le 16 (drop (i * 136) s) (rw length-drop (omega arith)));
+        peer = rw (r .peer) (length-take-le 16 (drop (i * heldWidth) s) (rw length-drop (omega arith)));
         setup = rw (r .setup) (k .setup .size);
         current = r .fit;
         undated = λ e. r .last ∙ ap num (clear (k .last) (r .dated) e) ∙ num-zeros;

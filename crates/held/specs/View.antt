@@ -13,12 +13,10 @@ use Rattle.lib_laws.specs.Fields.{cuts}
 use Rattle.lib_laws.specs.Store.{Store, entries}
 use Rattle.node_addr.specs.View.{viewPair, FitPair}
 use Rattle.node_addr.specs.Place.{pairOf, PairCell, pair-zeros}
+use Rattle.held.specs.Layout.{heldWs, atHeldCount, heldCap, heldWidth}
 use Rattle.held.specs.declared.record.Held as held
 
 -- ---- an entry: peer, link, epoch, installed, heard, dated, last, answered, setup, current
-abbrev pub heldWs : List ℕ
-heldWs = 16 ∷ 8 ∷ 8 ∷ 8 ∷ 1 ∷ 1 ∷ 8 ∷ 1 ∷ 32 ∷ 53 ∷ []
-
 -- the k-th cell
 abbrev pub cell : List Bytes → ℕ → Bytes
 cell fs k = getD fs k []
@@ -50,23 +48,23 @@ FitHeldCell c = FitCells (cuts 0 0 heldWs c)
 
 -- ---- the region
 abbrev pub viewHeld : Bytes → List Held
-viewHeld s = entries heldOf 136 32 s
+viewHeld s = entries heldOf heldWidth heldCap s
 
 abbrev pub FitHeld : Bytes → Type 0
-FitHeld s = Store FitHeldCell 136 32 s
+FitHeld s = Store FitHeldCell heldWidth heldCap s
 
 abbrev pub heldCount : Bytes → ℕ
-heldCount s = getD s 4352 0
+heldCount s = getD s atHeldCount 0
 
 abbrev pub noHeld : Held
-noHeld = heldOf (replicate 136 0)
+noHeld = heldOf (replicate heldWidth 0)
 
 -- the i-th held peer
 abbrev pub nthHeld : Bytes → ℕ → Held
 nthHeld s i = getD (viewHeld s) i noHeld
 
 -- an entry of zeros
-pub fit-zeros : FitHeldCell (replicate 136 0)
+pub fit-zeros : FitHeldCell (replicate heldWidth 0)
 fit-zeros = record {
   heard = record { size = refl; low = lit< tt };
   last = record { flag = record { size = refl; low = lit< tt }; size = refl; blank = λ e. refl };

@@ -14,17 +14,18 @@ use Rattle.lib_laws.specs.Shift.{shown, erase, insert}
 use Rattle.lib_laws.specs.Scan.{scan, Ahead, scan-hit, scan-skip, scan-end, scan-within, length-shows}
 use Rattle.lib_laws.specs.Place.{without-at, without-nowhere, alter-at, alter-nowhere, insert-at, insert-last, insert-end}
 use Rattle.lib_laws.specs.Chunk.{chunks}
+use Rattle.held.specs.Layout.{heldCap, heldWidth}
 use Rattle.held.specs.View.{heldOf, viewHeld, FitHeld, heldCount, noHeld, nthHeld}
 use Rattle.held.specs.At.{precedes}
 
 pub count-is : {s : Bytes} → FitHeld s → length (viewHeld s) ≡ heldCount s
-count-is {s} f = length-shows heldOf (heldCount s) (chunks 136 32 s) (omega arith)
+count-is {s} f = length-shows heldOf (heldCount s) (chunks heldWidth heldCap s) (omega arith)
 
 -- ---- a search that stands at i: o is its answer
 pub record Scanning (o : Option ℕ) (t : Held → Bool) (s : Bytes) (n i : ℕ) : Type 0 where
   pub fit : FitHeld s
   pub count : n ≡ heldCount s
-  pub ahead : Ahead o t heldOf (heldCount s) (chunks 136 32 s) i
+  pub ahead : Ahead o t heldOf (heldCount s) (chunks heldWidth heldCap s) i
 
 pub scanning-start : {s : Bytes} {n : ℕ} (t : Held → Bool) → FitHeld s → n ≡ heldCount s → Scanning (scan t 0 (viewHeld s)) t s n 0
 scanning-start t f e = record { fit = f; count = e; ahead = record { within = omega arith; room = omega arith; left = refl } }
@@ -64,7 +65,7 @@ slot-insert {s} {r} h a f = go (scan (earlierHeld h) 0 (viewHeld s)) refl (a .is
 -- ---- what a place found by a peer's address says of the rules' lists
 module _ (p : Bytes) where
   pub found-within : {s : Bytes} {i : ℕ} → FitHeld s → scan (named p) 0 (viewHeld s) ≡ some i → i < heldCount s
-  found-within {s} {i} f e = scan-within (named p) heldOf (heldCount s) (chunks 136 32 s) i (omega arith) e
+  found-within {s} {i} f e = scan-within (named p) heldOf (heldCount s) (chunks heldWidth heldCap s) i (omega arith) e
 
   pub dropped : {s l : Bytes} {i : ℕ} → FitHeld s → FitHeld l → scan (named p) 0 (viewHeld s) ≡ some i → viewHeld l ≡ erase i (viewHeld s)
       → FitHeld l × (viewHeld l ≡ without (named p) (viewHeld s))

@@ -1,6 +1,17 @@
 // The i-th held peer: single cells read where they stand, and the whole.
+use crate::layout::CURRENT;
+use crate::layout::EPOCH;
+use crate::layout::HAS_LAST;
+use crate::layout::HAS_SETUP;
+use crate::layout::HEARD;
+use crate::layout::HELD_WIDTH;
+use crate::layout::INSTALLED;
+use crate::layout::LAST;
+use crate::layout::LINK;
+use crate::layout::SETUP;
 use crate::record::Held;
 use lib_bytes::flag::get_flag;
+use lib_bytes::layout::U64;
 use lib_bytes::read::get_be;
 use node_addr::Digest;
 use node_addr::LinkNo;
@@ -25,7 +36,7 @@ pub fn peer_at(s: &[u8], i: usize) -> NodeAddr
     requires { ⌜ i < heldCount (now s) ⌝ }
     ensures { λ r. ⌜ r .0 ≡ nthHeld (now (s .entry)) i .peer ⌝ }
 {
-    load_node(s, i * 136)
+    load_node(s, i * HELD_WIDTH)
 }
 
 pub fn link_at(s: &[u8], i: usize) -> LinkNo
@@ -33,7 +44,7 @@ pub fn link_at(s: &[u8], i: usize) -> LinkNo
     requires { ⌜ i < heldCount (now s) ⌝ }
     ensures { λ r. ⌜ r .0 ≡ nthHeld (now (s .entry)) i .link ⌝ }
 {
-    let n = get_be(s, i * 136 + 16, 8);
+    let n = get_be(s, i * HELD_WIDTH + LINK, U64);
     LinkNo(n)
 }
 
@@ -42,7 +53,7 @@ pub fn epoch_at(s: &[u8], i: usize) -> u64
     requires { ⌜ i < heldCount (now s) ⌝ }
     ensures { λ r. ⌜ r ≡ nthHeld (now (s .entry)) i .epoch ⌝ }
 {
-    get_be(s, i * 136 + 24, 8)
+    get_be(s, i * HELD_WIDTH + EPOCH, U64)
 }
 
 pub fn installed_at(s: &[u8], i: usize) -> u64
@@ -50,7 +61,7 @@ pub fn installed_at(s: &[u8], i: usize) -> u64
     requires { ⌜ i < heldCount (now s) ⌝ }
     ensures { λ r. ⌜ r ≡ nthHeld (now (s .entry)) i .installed ⌝ }
 {
-    get_be(s, i * 136 + 32, 8)
+    get_be(s, i * HELD_WIDTH + INSTALLED, U64)
 }
 
 pub fn heard_at(s: &[u8], i: usize) -> bool
@@ -58,7 +69,7 @@ pub fn heard_at(s: &[u8], i: usize) -> bool
     requires { ⌜ i < heldCount (now s) ⌝ }
     ensures { λ r. ⌜ r ≡ nthHeld (now (s .entry)) i .heard ⌝ }
 {
-    get_flag(s, i * 136 + 40)
+    get_flag(s, i * HELD_WIDTH + HEARD)
 }
 
 // Whether a frame of its session has been heard.
@@ -67,7 +78,7 @@ pub fn dated_at(s: &[u8], i: usize) -> bool
     requires { ⌜ i < heldCount (now s) ⌝ }
     ensures { λ r. ⌜ r ≡ is (nthHeld (now (s .entry)) i .last) ⌝ }
 {
-    get_flag(s, i * 136 + 41)
+    get_flag(s, i * HELD_WIDTH + HAS_LAST)
 }
 
 // When the last frame was heard; 0 if none was.
@@ -76,7 +87,7 @@ pub fn last_at(s: &[u8], i: usize) -> u64
     requires { ⌜ i < heldCount (now s) ⌝ }
     ensures { λ r. ⌜ r ≡ lastHeard (nthHeld (now (s .entry)) i) ⌝ }
 {
-    get_be(s, i * 136 + 42, 8)
+    get_be(s, i * HELD_WIDTH + LAST, U64)
 }
 
 // Whether an answer of this node installed it.
@@ -85,7 +96,7 @@ pub fn answered_at(s: &[u8], i: usize) -> bool
     requires { ⌜ i < heldCount (now s) ⌝ }
     ensures { λ r. ⌜ r ≡ is (nthHeld (now (s .entry)) i .setup) ⌝ }
 {
-    get_flag(s, i * 136 + 50)
+    get_flag(s, i * HELD_WIDTH + HAS_SETUP)
 }
 
 // The digest of the msg1 that was answered; zeros if none was.
@@ -94,7 +105,7 @@ pub fn setup_at(s: &[u8], i: usize) -> Digest
     requires { ⌜ i < heldCount (now s) ⌝ }
     ensures { λ r. ⌜ r .0 ≡ setupOf (nthHeld (now (s .entry)) i) ⌝ }
 {
-    load_digest(s, i * 136 + 51)
+    load_digest(s, i * HELD_WIDTH + SETUP)
 }
 
 pub fn current_at(s: &[u8], i: usize) -> Pair
@@ -103,7 +114,7 @@ pub fn current_at(s: &[u8], i: usize) -> Pair
     ensures { λ r. ⌜ FitPair r ⌝ }
     ensures { λ r. ⌜ viewPair r ≡ nthHeld (now (s .entry)) i .current ⌝ }
 {
-    load_pair(s, i * 136 + 83)
+    load_pair(s, i * HELD_WIDTH + CURRENT)
 }
 
 // Whether the current pair is p.
@@ -113,7 +124,7 @@ pub fn current_is(s: &[u8], i: usize, p: Pair) -> bool
     requires { ⌜ FitPair p ⌝ }
     ensures { λ r. ⌜ r ≡ samePair (viewPair p) (nthHeld (now (s .entry)) i .current) ⌝ }
 {
-    pair_here(s, i * 136 + 83, p)
+    pair_here(s, i * HELD_WIDTH + CURRENT, p)
 }
 
 // Whether the current pair is the one that stands in a record.
@@ -123,7 +134,7 @@ pub fn current_stands(s: &[u8], i: usize, rec: &[u8], from: usize) -> bool
     requires { ⌜ PairIn (now rec) from ⌝ }
     ensures { λ r. ⌜ r ≡ samePair (pairHere (drop from (now (rec .entry)))) (nthHeld (now (s .entry)) i .current) ⌝ }
 {
-    pair_stands(s, i * 136 + 83, rec, from)
+    pair_stands(s, i * HELD_WIDTH + CURRENT, rec, from)
 }
 
 // The i-th held peer.
@@ -133,20 +144,20 @@ pub fn get_held(s: &[u8], i: usize) -> Held
     ensures { λ r. ⌜ FitRec r ⌝ }
     ensures { λ r. ⌜ viewRec r ≡ nthHeld (now (s .entry)) i ⌝ }
 {
-    let a = i * 136;
+    let a = i * HELD_WIDTH;
     let peer = load_node(s, a);
-    let link = get_be(s, a + 16, 8);
-    let setup = load_digest(s, a + 51);
-    let current = load_pair(s, a + 83);
+    let link = get_be(s, a + LINK, U64);
+    let setup = load_digest(s, a + SETUP);
+    let current = load_pair(s, a + CURRENT);
     Held {
         peer: peer,
         link: LinkNo(link),
-        epoch: get_be(s, a + 24, 8),
-        installed: get_be(s, a + 32, 8),
-        heard: get_flag(s, a + 40),
-        dated: get_flag(s, a + 41),
-        last: get_be(s, a + 42, 8),
-        answered: get_flag(s, a + 50),
+        epoch: get_be(s, a + EPOCH, U64),
+        installed: get_be(s, a + INSTALLED, U64),
+        heard: get_flag(s, a + HEARD),
+        dated: get_flag(s, a + HAS_LAST),
+        last: get_be(s, a + LAST, U64),
+        answered: get_flag(s, a + HAS_SETUP),
         setup: setup,
         current: current,
     }

@@ -1,6 +1,7 @@
 // The bytes of a held peer, written at a place.
 use crate::record::Held;
 use lib_bytes::flag::put_flag;
+use lib_bytes::layout::U64;
 use lib_bytes::write::put_be;
 use node_addr::place::put_digest;
 use node_addr::place::put_node;
@@ -10,6 +11,7 @@ ghost use lib.ListN.{length};
 ghost use Rattle.lib_laws.specs.Splice.{Wrote};
 ghost use Rattle.held.specs.View.{FitRec};
 ghost use Rattle.held.specs.Entry.{heldBytes, frontBytes, backBytes};
+ghost use Rattle.held.specs.Layout.{heldWidth};
 
 fn put_front(s: &mut [u8], at: usize, h: Held) -> usize
     requires { ⌜ at + 41 ≤ length (now s) ⌝ }
@@ -17,9 +19,9 @@ fn put_front(s: &mut [u8], at: usize, h: Held) -> usize
 {
     let peer = h.peer;
     let a = put_node(s, at, peer);
-    let b = put_be(s, a, h.link.0, 8);
-    let c = put_be(s, b, h.epoch, 8);
-    let d = put_be(s, c, h.installed, 8);
+    let b = put_be(s, a, h.link.0, U64);
+    let c = put_be(s, b, h.epoch, U64);
+    let d = put_be(s, c, h.installed, U64);
     put_flag(s, d, h.heard)
 }
 
@@ -31,7 +33,7 @@ fn put_back(s: &mut [u8], at: usize, h: Held) -> usize
     let setup = h.setup;
     let current = h.current;
     let a = put_flag(s, at, h.dated);
-    let b = put_be(s, a, h.last, 8);
+    let b = put_be(s, a, h.last, U64);
     let c = put_flag(s, b, h.answered);
     let d = put_digest(s, c, setup);
     put_pair(s, d, current)
@@ -39,8 +41,8 @@ fn put_back(s: &mut [u8], at: usize, h: Held) -> usize
 
 pub fn put_held(s: &mut [u8], at: usize, h: Held) -> usize
     requires { ⌜ FitRec h ⌝ }
-    requires { ⌜ at + 136 ≤ length (now s) ⌝ }
-    ensures { λ r. ⌜ Wrote (now (s .entry)) at 136 (heldBytes h) (now (s .exit)) r ⌝ }
+    requires { ⌜ at + heldWidth ≤ length (now s) ⌝ }
+    ensures { λ r. ⌜ Wrote (now (s .entry)) at heldWidth (heldBytes h) (now (s .exit)) r ⌝ }
 {
     let a = put_front(s, at, h);
     put_back(s, a, h)

@@ -2,6 +2,8 @@
 use crate::at::current_stands;
 use crate::change::set_heard;
 use crate::change::set_last;
+use crate::layout::CURRENT;
+use crate::layout::HELD_WIDTH;
 use node_addr::place::load_spelt;
 use node_addr::place::put_pair;
 ghost use mathlib.Core.Path.{_≡_};
@@ -25,7 +27,7 @@ fn take_current(s: &mut [u8], i: usize, stays: bool, rec: &[u8], from: usize)
         return;
     }
     let p = load_spelt(rec, from);
-    put_pair(s, i * 136 + 83, p);
+    put_pair(s, i * HELD_WIDTH + CURRENT, p);
 }
 
 // Whether the pair was the current one already.

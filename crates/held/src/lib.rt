@@ -3,6 +3,7 @@ pub mod at;
 mod change;
 mod entry;
 pub mod heard;
+pub mod layout;
 pub mod map;
 pub mod moved;
 pub mod record;

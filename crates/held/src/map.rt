@@ -1,5 +1,8 @@
 // The held peers of a region: counted, found, inserted in the order of their addresses, and removed.
 use crate::entry::put_held;
+use crate::layout::HELD_CAP;
+use crate::layout::HELD_COUNT;
+use crate::layout::HELD_WIDTH;
 use crate::record::Held;
 use lib_region::count;
 use lib_region::open_chunk;
@@ -25,7 +28,7 @@ pub fn held_count(s: &[u8]) -> usize
     ensures { λ r. ⌜ r ≡ heldCount (now (s .entry)) ⌝ }
     ensures { λ r. ⌜ r ≡ length (viewHeld (now (s .entry))) ⌝ }
 {
-    count(s, 4352)
+    count(s, HELD_COUNT)
 }
 
 // The place of a peer.
@@ -36,7 +39,7 @@ pub fn find_held(s: &[u8], peer: NodeAddr) -> Found
     let n = held_count(s);
     let mut i = 0;
     while i < n {
-        if node_here(s, i * 136, peer) {
+        if node_here(s, i * HELD_WIDTH, peer) {
             return Found::At(i);
         }
         i += 1;
@@ -52,7 +55,7 @@ fn place_for(s: &[u8], peer: NodeAddr) -> usize
     let n = held_count(s);
     let mut i = 0;
     while i < n {
-        if before_here(s, i * 136, peer) {
+        if before_here(s, i * HELD_WIDTH, peer) {
             return i;
         }
         i += 1;
@@ -70,8 +73,8 @@ pub fn insert_held(s: &mut [u8], h: Held)
 {
     let peer = h.peer;
     let i = place_for(s, peer);
-    open_chunk(s, 136, 32, i);
-    put_held(s, i * 136, h);
+    open_chunk(s, HELD_WIDTH, HELD_CAP, i);
+    put_held(s, i * HELD_WIDTH, h);
 }
 
 pub fn remove_held(s: &mut [u8], i: usize)
@@ -80,7 +83,7 @@ pub fn remove_held(s: &mut [u8], i: usize)
     ensures { λ r. ⌜ FitHeld (now (s .exit)) ⌝ }
     ensures { λ r. ⌜ viewHeld (now (s .exit)) ≡ erase i (viewHeld (now (s .entry))) ⌝ }
 {
-    remove_chunk(s, 136, 32, i);
+    remove_chunk(s, HELD_WIDTH, HELD_CAP, i);
 }
 
 // A peer goes, if it is held.

@@ -1,4 +1,7 @@
 // The i-th held peer restarted: another epoch.
+use crate::layout::EPOCH;
+use crate::layout::HELD_WIDTH;
+use lib_bytes::layout::U64;
 use lib_bytes::write::put_be;
 ghost use mathlib.Core.Path.{_≡_};
 ghost use Prim.Native.Nat.{_<_};
@@ -12,5 +15,5 @@ pub fn set_epoch(s: &mut [u8], i: usize, epoch: u64)
     ensures { λ r. ⌜ FitHeld (now (s .exit)) ⌝ }
     ensures { λ r. ⌜ viewHeld (now (s .exit)) ≡ set (viewHeld (now (s .entry))) i (withEpoch epoch (nthHeld (now (s .entry)) i)) ⌝ }
 {
-    put_be(s, i * 136 + 24, epoch, 8);
+    put_be(s, i * HELD_WIDTH + EPOCH, epoch, U64);
 }

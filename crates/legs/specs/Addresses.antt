@@ -15,6 +15,7 @@ use Rattle.lib_laws.specs.Chunk.{chunks}
 use Rattle.lib_laws.specs.Store.{entries-count}
 use Rattle.links_entry.specs.View.{pathOf, pathCount, noPath, viewLinks, FitLinks, linkCount, noLink}
 use Rattle.links_entry.specs.Here.{paths-here, paths-fit}
+use Rattle.links_entry.specs.Layout.{atLinkPathCount, atPathCount, atPaths, linkWidth, pathCap, pathWidth, pathsLen}
 use Rattle.legs.specs.Stored.{reach, length-reach}
 
 abbrev pub linkAt : Bytes → ℕ → LinkRec
@@ -25,18 +26,18 @@ links-count f = entries-count _ f
 
 -- the paths of the i-th link, where they stand
 abbrev pub pathsAt : Bytes → ℕ → Bytes
-pathsAt s i = take 217 (drop (i * 297 + 80) s)
+pathsAt s i = take pathsLen (drop (i * linkWidth + atPaths) s)
 
 module _ {s : Bytes} {i : ℕ} (f : FitLinks s) (h : i < linkCount s) where
-  paths-count : pathCount (pathsAt s i) ≡ getD s (i * 297 + 296) 0
+  paths-count : pathCount (pathsAt s i) ≡ getD s (i * linkWidth + atLinkPathCount) 0
   paths-count =
-      let e : i * 297 + 80 + 216 ≡ i * 297 + 296 = omega arith in
-      getD-take 217 (drop (i * 297 + 80) s) 216 0 (lit< tt) ∙ getD-drop (i * 297 + 80) s 216 0 ∙ ap (λ (k : ℕ). getD s k 0) e
+      let e : i * linkWidth + atPaths + atPathCount ≡ i * linkWidth + atLinkPathCount = omega arith in
+      getD-take pathsLen (drop (i * linkWidth + atPaths) s) atPathCount 0 (lit< tt) ∙ getD-drop (i * linkWidth + atPaths) s atPathCount 0 ∙ ap (λ (k : ℕ). getD s k 0) e
 
   paths-length : length (linkAt s i .paths) ≡ pathCount (pathsAt s i)
   paths-length = ap length (sym (paths-here f h)) ∙ entries-count pathOf (paths-fit f h)
 
-  pub address-count : {n : ℕ} → n ≡ getD s (i * 297 + 296) 0 → n + 1 ≡ length (linkAt s i .paths) + 1
+  pub address-count : {n : ℕ} → n ≡ getD s (i * linkWidth + atLinkPathCount) 0 → n + 1 ≡ length (linkAt s i .paths) + 1
   address-count e = ap (λ (k : ℕ). k + 1) (e ∙ sym paths-count ∙ sym paths-length)
 
   -- the first address
@@ -63,7 +64,7 @@ module _ {s : Bytes} {i : ℕ} (f : FitLinks s) (h : i < linkCount s) where
         positive : (j : ℕ) → (j ≡ 0 → ⊥) → 0 < j
         positive j z = omega (arith, z)
 
-    pub path-counts : {b : Bool} → b ≡ provenAt p (pathOf (getD (chunks 54 4 (pathsAt s i)) (j - 1) [])) → b ≡ getD (reach p (linkAt s i)) j false
+    pub path-counts : {b : Bool} → b ≡ provenAt p (pathOf (getD (chunks pathWidth pathCap (pathsAt s i)) (j - 1) [])) → b ≡ getD (reach p (linkAt s i)) j false
     path-counts e =
         e ∙ ap (provenAt p) (shown pathOf (j - 1) [] noPath (paths-fit f h .kept) path-within ∙ ap (λ (ws : List PathRec). getD ws (j - 1) noPath) (paths-here f h))
         ∙ sym (List·getD-map (provenAt p) (linkAt s i .paths) (j - 1) noPath)

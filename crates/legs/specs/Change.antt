@@ -22,28 +22,29 @@ use Rattle.lib_laws.specs.Cell.{byteOf, flagOf, Code, flag-shows}
 use Rattle.lib_laws.specs.Chunk.{chunks, chunk-size, chunks-splice}
 use Rattle.lib_laws.specs.Fields.{cuts, cuts-set, sum}
 use Rattle.node_addr.specs.Alike.{byte-here}
-use Rattle.legs_entry.specs.View.{legWs, cell, legFrom, legOf, FitCells, FitLegCell, viewLegs, FitLegs, legCount, noLeg, legAt}
+use Rattle.legs_entry.specs.View.{cell, legFrom, legOf, FitCells, FitLegCell, viewLegs, FitLegs, legCount, noLeg, legAt}
 use Rattle.legs_entry.specs.Entry.{optional-number, cells-here}
 use Rattle.legs_entry.specs.Start.{again}
+use Rattle.legs_entry.specs.Layout.{atAnswer, atAnswerSent, atHasNext, atLegCount, atReplaces, legCap, legWidth, legWs}
 
 -- the bytes of the i-th leg
 abbrev pub entryAt : Bytes → ℕ → Bytes
-entryAt s i = getD (chunks 351 32 s) i []
+entryAt s i = getD (chunks legWidth legCap s) i []
 
 -- bytes put into the i-th entry, which is to show as v
-pub changed-here : {s l bs : Bytes} {n q : ℕ} (i o : ℕ) (v : Leg) → Wrote s (i * 351 + o) n bs l q → FitLegs s → i < legCount s → o + n ≤ 351
+pub changed-here : {s l bs : Bytes} {n q : ℕ} (i o : ℕ) (v : Leg) → Wrote s (i * legWidth + o) n bs l q → FitLegs s → i < legCount s → o + n ≤ legWidth
     → FitLegCell (splice (entryAt s i) o bs) → legOf (splice (entryAt s i) o bs) ≡ v → FitLegs l × (viewLegs l ≡ set (viewLegs s) i v)
 changed-here {s} {l} {bs} i o v a f h ob keeps shows =
     let b : length bs ≡ _ = a .size in
-    let size : length (splice s (i * 351 + o) bs) ≡ length s = length-splice s (i * 351 + o) bs (omega arith) in
-    let y = getD-past 11232 s (i * 351 + o) bs (omega arith) (omega arith) in
-    let c = chunks-splice 351 32 s i o bs (omega arith) (omega arith) (omega arith) in
+    let size : length (splice s (i * legWidth + o) bs) ≡ length s = length-splice s (i * legWidth + o) bs (omega arith) in
+    let y = getD-past atLegCount s (i * legWidth + o) bs (omega arith) (omega arith) in
+    let c = chunks-splice legWidth legCap s i o bs (omega arith) (omega arith) (omega arith) in
     let k = replaced legOf i (splice (entryAt s i) o bs) (f .kept) keeps h in
     rw (a .is) (record { size = omega arith; kept = rw (y, c) (k .0) }, rw (y, c, ← shows) (k .1))
 
 module _ (s : Bytes) (i : ℕ) (f : FitLegs s) (h : i < legCount s) where
-  entry-size : length (entryAt s i) ≡ 351
-  entry-size = chunk-size 351 32 s i [] (omega arith) (omega arith)
+  entry-size : length (entryAt s i) ≡ legWidth
+  entry-size = chunk-size legWidth legCap s i [] (omega arith) (omega arith)
 
   entry-fit : FitLegCell (entryAt s i)
   entry-fit = fit-at legOf i [] (f .kept) h
@@ -70,7 +71,7 @@ unsent-kind : (x : Bool) (m d : Bytes) (p : ℕ) (r q : Bool)
 unsent-kind true m d p r q = refl
 unsent-kind false m d p r q = refl
 
-module _ (c : Bytes) (z : length c ≡ 351) (f : FitLegCell c) where
+module _ (c : Bytes) (z : length c ≡ legWidth) (f : FitLegCell c) where
   sent-cuts : (b : ℕ) → cuts 0 0 legWs (splice c 51 (b ∷ [])) ≡ set (cuts 0 0 legWs c) 9 (b ∷ [])
   unfolding sum
   sent-cuts b = cuts-set 0 0 legWs c 9 51 (b ∷ []) (lit< tt) (omega arith) refl refl
@@ -122,8 +123,8 @@ module _ (c : Bytes) (z : length c ≡ 351) (f : FitLegCell c) where
     again-cuts =
         let l8 : length (digits 8 v) ≡ 8 = length-digits 8 v in
         let l4 : length (digits 4 n) ≡ 4 = length-digits 4 n in
-        let z1 : length (splice c 16 (one t ∷ [])) ≡ 351 = length-splice c 16 (one t ∷ []) (omega arith) ∙ z in
-        let z2 : length (splice (splice c 16 (one t ∷ [])) 17 (digits 8 v)) ≡ 351 = length-splice (splice c 16 (one t ∷ [])) 17 (digits 8 v) (omega arith) ∙ z1 in
+        let z1 : length (splice c 16 (one t ∷ [])) ≡ legWidth = length-splice c 16 (one t ∷ []) (omega arith) ∙ z in
+        let z2 : length (splice (splice c 16 (one t ∷ [])) 17 (digits 8 v)) ≡ legWidth = length-splice (splice c 16 (one t ∷ [])) 17 (digits 8 v) (omega arith) ∙ z1 in
         let e1 : splice c 16 ((one t ∷ []) ++ digits 8 v) ≡ splice (splice c 16 (one t ∷ [])) 17 (digits 8 v) = sym (splice-splice c 16 (one t ∷ []) (digits 8 v) (omega arith)) in
         let l9 : length ((one t ∷ []) ++ digits 8 v) ≡ 9 = omega arith in
         let e2 : splice c 16 ((one t ∷ []) ++ digits 8 v ++ digits 4 n) ≡ splice (splice (splice c 16 (one t ∷ [])) 17 (digits 8 v)) 25 (digits 4 n) =
@@ -152,21 +153,21 @@ module _ (c : Bytes) (z : length c ≡ 351) (f : FitLegCell c) where
 
 -- ---- the same of the region
 module _ {s l : Bytes} {q : ℕ} (i : ℕ) where
-  pub marked-sent : (b : ℕ) → Wrote s (i * 351 + 51) 1 (b ∷ []) l q → FitLegs s → i < legCount s → b ≡ getD s (i * 351 + 33) 0
+  pub marked-sent : (b : ℕ) → Wrote s (i * legWidth + atAnswerSent) 1 (b ∷ []) l q → FitLegs s → i < legCount s → b ≡ getD s (i * legWidth + atAnswer) 0
       → FitLegs l × (viewLegs l ≡ set (viewLegs s) i (markSent (legAt s i)))
   marked-sent b a f h e =
       let z = entry-size s i f h in
       let k = entry-fit s i f h in
-      let x : b ≡ byteOf (cell (cuts 0 0 legWs (entryAt s i)) 6) = e ∙ byte-here s (i * 351 + 33) ∙ ap (λ (fs : List Bytes). byteOf (cell fs 6)) (cells-here s i f h) in
+      let x : b ≡ byteOf (cell (cuts 0 0 legWs (entryAt s i)) 6) = e ∙ byte-here s (i * legWidth + atAnswer) ∙ ap (λ (fs : List Bytes). byteOf (cell fs 6)) (cells-here s i f h) in
       changed-here i 51 (markSent (legAt s i)) a f h (lit≤ tt) (sent-fits (entryAt s i) z k b x) (sent-shows (entryAt s i) z k b x ∙ ap markSent (entry-shows s i f h))
 
-  pub marked-unsent : Wrote s (i * 351 + 52) 1 (0 ∷ []) l q → FitLegs s → i < legCount s → FitLegs l × (viewLegs l ≡ set (viewLegs s) i (markUnsent (legAt s i)))
+  pub marked-unsent : Wrote s (i * legWidth + atReplaces) 1 (0 ∷ []) l q → FitLegs s → i < legCount s → FitLegs l × (viewLegs l ≡ set (viewLegs s) i (markUnsent (legAt s i)))
   marked-unsent a f h =
       let z = entry-size s i f h in
       let k = entry-fit s i f h in
       changed-here i 52 (markUnsent (legAt s i)) a f h (lit≤ tt) (unsent-fits (entryAt s i) z k) (unsent-shows (entryAt s i) z k ∙ ap markUnsent (entry-shows s i f h))
 
-  pub set-again : (t : Bool) (v n : ℕ) → Wrote s (i * 351 + 16) 13 ((one t ∷ []) ++ digits 8 v ++ digits 4 n) l q → FitLegs s → i < legCount s
+  pub set-again : (t : Bool) (v n : ℕ) → Wrote s (i * legWidth + atHasNext) 13 ((one t ∷ []) ++ digits 8 v ++ digits 4 n) l q → FitLegs s → i < legCount s
       → (t ≡ false → v ≡ 0) → Fits w64 v → Fits w32 n → FitLegs l × (viewLegs l ≡ set (viewLegs s) i (again (if t then some v else none) n (legAt s i)))
   set-again t v n a f h b x y =
       let z = entry-size s i f h in

@@ -14,14 +14,16 @@ use Rattle.lib_laws.specs.Chunk.{chunks}
 use Rattle.lib_laws.specs.Fields.{cuts, sum}
 use Rattle.lib_laws.specs.Store.{store-zeros, same-view}
 use Rattle.lib_laws.specs.Same.{cell-bytes, num-cells, cells-same, with-bytes}
-use Rattle.legs_entry.specs.View.{legWs, answerFrom, kindFrom, legOf, FitLegCell, viewLegs, FitLegs, fit-zeros}
+use Rattle.legs_entry.specs.View.{answerFrom, kindFrom, legOf, FitLegCell, viewLegs, FitLegs, fit-zeros}
+use Rattle.links_entry.specs.Layout.{atPathState}
+use Rattle.legs_entry.specs.Layout.{atLegCount, legCap, legWidth, legsLen, atEpoch, legWs}
 
 -- ---- new memory
-pub fit-new : FitLegs (replicate 11233 0)
-fit-new = store-zeros FitLegCell 351 32 fit-zeros
+pub fit-new : FitLegs (replicate legsLen 0)
+fit-new = store-zeros FitLegCell legWidth legCap fit-zeros
 
-pub shows-none : viewLegs (replicate 11233 0) ≡ []
-shows-none = ap (λ (n : ℕ). map legOf (take n (chunks 351 32 (replicate 11233 0)))) (getD-replicate 11233 11232 0 0 (lit≤ tt))
+pub shows-none : viewLegs (replicate legsLen 0) ≡ []
+shows-none = ap (λ (n : ℕ). map legOf (take n (chunks legWidth legCap (replicate legsLen 0)))) (getD-replicate legsLen atLegCount 0 0 (lit≤ tt))
 
 -- ---- equal contents are equal bytes
 -- the cells that tell dials and answers apart, and those of an answer
@@ -30,12 +32,12 @@ module _ (c d : Bytes) where
     pub answer : take 1 (drop 33 c) ≡ take 1 (drop 33 d)
     pub marked : take 1 (drop 51 c) ≡ take 1 (drop 51 d)
     pub replaces : take 1 (drop 52 c) ≡ take 1 (drop 52 d)
-    pub epoch : take 8 (drop 53 c) ≡ take 8 (drop 53 d)
+    pub epoch : take 8 (drop atPathState c) ≡ take 8 (drop atPathState d)
     pub digest : take 32 (drop 61 c) ≡ take 32 (drop 61 d)
     pub len2 : take 1 (drop 222 c) ≡ take 1 (drop 222 d)
     pub msg2 : take 128 (drop 223 c) ≡ take 128 (drop 223 d)
 
-module _ (c d : Bytes) (f : FitLegCell c) (g : FitLegCell d) (h : length c ≡ 351) (k : length d ≡ 351) (a : All IsByte c) (b : All IsByte d) where
+module _ (c d : Bytes) (f : FitLegCell c) (g : FitLegCell d) (h : length c ≡ legWidth) (k : length d ≡ legWidth) (a : All IsByte c) (b : All IsByte d) where
   kinds-alike : kindFrom (cuts 0 0 legWs c) ≡ kindFrom (cuts 0 0 legWs d) → Alike c d
   kinds-alike e = go (flagOf (take 1 (drop 33 c))) (flagOf (take 1 (drop 33 d))) refl refl e
     where
@@ -48,7 +50,7 @@ module _ (c d : Bytes) (f : FitLegCell c) (g : FitLegCell d) (h : length c ≡ 3
             answer = flag-same (f .answer) (g .answer) (p ∙ sym q);
             marked = flag-same (f .marked) (g .marked) (ap (λ (r : Answered). r .sent) w);
             replaces = flag-same (f .replaces) (g .replaces) (ap (λ (r : Answered). r .replaces) w);
-            epoch = num-cells 8 53 c d (omega arith) (omega arith) a b (ap (λ (r : Answered). r .epoch) w);
+            epoch = num-cells 8 atEpoch c d (omega arith) (omega arith) a b (ap (λ (r : Answered). r .epoch) w);
             digest = ap (λ (r : Answered). r .ephemeral) w;
             len2 = m .0;
             msg2 = m .1;

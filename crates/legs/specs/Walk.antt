@@ -19,9 +19,10 @@ use Rattle.lib_laws.specs.Chunk.{chunks}
 use Rattle.node_addr.specs.declared.Found.the-variants as foundv
 use Rattle.node_addr.specs.View.{Finds, finds-some, finds-no}
 use Rattle.legs_entry.specs.View.{legOf, viewLegs, FitLegs, legCount, noLeg, legAt}
+use Rattle.legs_entry.specs.Layout.{legCap, legWidth}
 
 pub count-is : {s : Bytes} → FitLegs s → length (viewLegs s) ≡ legCount s
-count-is {s} f = length-shows legOf (legCount s) (chunks 351 32 s) (omega arith)
+count-is {s} f = length-shows legOf (legCount s) (chunks legWidth legCap s) (omega arith)
 
 -- the legs from the i-th on
 from-here : {s : Bytes} {i : ℕ} → FitLegs s → i < legCount s → drop i (viewLegs s) ≡ legAt s i ∷ drop (i + 1) (viewLegs s)
@@ -34,7 +35,7 @@ none-left {s} {i} f h = drop-of-length-le (viewLegs s) {i = i} (rw (count-is f) 
 pub record Scanning (o : Option ℕ) (t : Leg → Bool) (s : Bytes) (n i : ℕ) : Type 0 where
   pub fit : FitLegs s
   pub count : n ≡ legCount s
-  pub ahead : Ahead o t legOf (legCount s) (chunks 351 32 s) i
+  pub ahead : Ahead o t legOf (legCount s) (chunks legWidth legCap s) i
 
 pub scanning-start : {s : Bytes} {n : ℕ} (t : Leg → Bool) (from : ℕ) → FitLegs s → n ≡ legCount s → from ≤ n → Scanning (scan t from (drop from (viewLegs s))) t s n from
 scanning-start t from f e h = record { fit = f; count = e; ahead = record { within = omega arith; room = omega arith; left = refl } }

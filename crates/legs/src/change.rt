@@ -1,6 +1,14 @@
 // Changes of the i-th leg, in place.
+use legs_entry::layout::ANSWER;
+use legs_entry::layout::ANSWER_SENT;
+use legs_entry::layout::HAS_NEXT;
+use legs_entry::layout::LEG_WIDTH;
+use legs_entry::layout::REPLACES;
+use legs_entry::layout::SENT;
 use legs_entry::leg::Again;
 use lib_bytes::flag::put_flag;
+use lib_bytes::layout::U32;
+use lib_bytes::layout::U64;
 use lib_bytes::read::get_be;
 use lib_bytes::read::get_byte;
 use lib_bytes::write::put_be;
@@ -49,8 +57,8 @@ fn put_again(s: &mut [u8], at: usize, next: Again, n: u32) -> usize
     ensures { λ r. ⌜ Wrote (now (s .entry)) at 13 ((one (next .some) ∷ []) ++ digits 8 (next .at) ++ digits 4 n) (now (s .exit)) r ⌝ }
 {
     let a = put_flag(s, at, next.some);
-    let b = put_be(s, a, next.at, 8);
-    put_be(s, b, n as u64, 4)
+    let b = put_be(s, a, next.at, U64);
+    put_be(s, b, n as u64, U32)
 }
 
 // A resend went out: it is counted, and the next is due after twice the interval.
@@ -60,9 +68,9 @@ pub fn resent_at(s: &mut [u8], i: usize, clock: u64, c: Params)
     ensures { λ r. ⌜ FitLegs (now (s .exit)) ⌝ }
     ensures { λ r. ⌜ viewLegs (now (s .exit)) ≡ set (viewLegs (now (s .entry))) i (resent (viewParams c) clock (legAt (now (s .entry)) i)) ⌝ }
 {
-    let n = one_more(get_be(s, i * 351 + 25, 4) as u32);
+    let n = one_more(get_be(s, i * LEG_WIDTH + SENT, U32) as u32);
     let next = next_resend(c, clock, n);
-    put_again(s, i * 351 + 16, next, n);
+    put_again(s, i * LEG_WIDTH + HAS_NEXT, next, n);
 }
 
 // The answer was sent: its mark becomes the answer's flag, so that a dial gets none.
@@ -72,8 +80,8 @@ pub fn mark_sent(s: &mut [u8], i: usize)
     ensures { λ r. ⌜ FitLegs (now (s .exit)) ⌝ }
     ensures { λ r. ⌜ viewLegs (now (s .exit)) ≡ set (viewLegs (now (s .entry))) i (markSent (legAt (now (s .entry)) i)) ⌝ }
 {
-    let b = get_byte(s, i * 351 + 33);
-    put_byte(s, i * 351 + 51, b);
+    let b = get_byte(s, i * LEG_WIDTH + ANSWER);
+    put_byte(s, i * LEG_WIDTH + ANSWER_SENT, b);
 }
 
 // The answer could not be sent: it replaces nothing.
@@ -83,5 +91,5 @@ pub fn mark_unsent(s: &mut [u8], i: usize)
     ensures { λ r. ⌜ FitLegs (now (s .exit)) ⌝ }
     ensures { λ r. ⌜ viewLegs (now (s .exit)) ≡ set (viewLegs (now (s .entry))) i (markUnsent (legAt (now (s .entry)) i)) ⌝ }
 {
-    put_byte(s, i * 351 + 52, 0);
+    put_byte(s, i * LEG_WIDTH + REPLACES, 0);
 }

@@ -1,6 +1,9 @@
 // The legs of a region: counted, found by link, added at the end and removed.
 use legs_entry::at::link_at;
 use legs_entry::entry::put_leg;
+use legs_entry::layout::LEG_CAP;
+use legs_entry::layout::LEG_COUNT;
+use legs_entry::layout::LEG_WIDTH;
 use legs_entry::leg::Leg;
 use lib_region::count;
 use lib_region::remove_chunk;
@@ -22,7 +25,7 @@ pub fn leg_count(s: &[u8]) -> usize
     ensures { λ r. ⌜ r ≡ legCount (now (s .entry)) ⌝ }
     ensures { λ r. ⌜ r ≡ length (viewLegs (now (s .entry))) ⌝ }
 {
-    count(s, 11232)
+    count(s, LEG_COUNT)
 }
 
 // The place of the leg on a link.
@@ -51,9 +54,9 @@ pub fn push_leg(s: &mut [u8], l: Leg)
     ensures { λ r. ⌜ FitLegs (now (s .exit)) ⌝ }
     ensures { λ r. ⌜ viewLegs (now (s .exit)) ≡ viewLegs (now (s .entry)) ++ (viewLeg l ∷ []) ⌝ }
 {
-    let n = s[11232] as usize;
-    put_leg(s, n * 351, l);
-    s[11232] = (n + 1) as u8;
+    let n = s[LEG_COUNT] as usize;
+    put_leg(s, n * LEG_WIDTH, l);
+    s[LEG_COUNT] = (n + 1) as u8;
 }
 
 pub fn remove_leg(s: &mut [u8], i: usize)
@@ -62,7 +65,7 @@ pub fn remove_leg(s: &mut [u8], i: usize)
     ensures { λ r. ⌜ FitLegs (now (s .exit)) ⌝ }
     ensures { λ r. ⌜ viewLegs (now (s .exit)) ≡ erase i (viewLegs (now (s .entry))) ⌝ }
 {
-    remove_chunk(s, 351, 32, i);
+    remove_chunk(s, LEG_WIDTH, LEG_CAP, i);
 }
 
 // The leg on a link goes, if there is one.

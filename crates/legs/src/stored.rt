@@ -23,6 +23,7 @@ ghost use Rattle.links_entry.specs.View.{pathOf, FitPaths, pathCount, FitLinks,
 ghost use Rattle.legs_entry.specs.View.{FitLegs, viewLegs};
 ghost use Rattle.legs.specs.Stored.{Tells, yieldOf, reach, toLook};
 ghost use Rattle.legs.specs.Addresses.{linkAt};
+ghost use Rattle.links_entry.specs.Layout.{pathCap, pathWidth};
 
 // The leg on a link, if it yields its msg2 for the `len` bytes from `at` on.
 pub fn yielding(s: &[u8], n: LinkNo, rec: &[u8], at: usize, len: usize) -> Found
@@ -44,7 +45,7 @@ fn proven_path(s: &[u8], j: usize, rec: &[u8], from: usize) -> bool
     requires { ⌜ FitPaths (now s) ⌝ }
     requires { ⌜ j < pathCount (now s) ⌝ }
     requires { ⌜ PairIn (now rec) from ⌝ }
-    ensures { λ r. ⌜ r ≡ provenAt (pairHere (drop from (now (rec .entry)))) (pathOf (getD (chunks 54 4 (now (s .entry))) j [])) ⌝ }
+    ensures { λ r. ⌜ r ≡ provenAt (pairHere (drop from (now (rec .entry)))) (pathOf (getD (chunks pathWidth pathCap (now (s .entry))) j [])) ⌝ }
 {
     let at = j * 54;
     if get_byte(s, at + 53) == 2 {

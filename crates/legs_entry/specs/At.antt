@@ -17,7 +17,8 @@ use Rattle.rules.specs.Legs.{answered, answers, storedMsg2, due, wake}
 use Rattle.lib_laws.specs.Cell.{num, byteOf, flagOf, orBlank}
 use Rattle.lib_laws.specs.Fields.{cuts}
 use Rattle.lib_laws.specs.Beside.{same-apart}
-use Rattle.legs_entry.specs.View.{legWs, answerFrom, BlankCells, FitLegs, legCount, legAt}
+use Rattle.legs_entry.specs.Layout.{legWs, atAnswer, atAnswerSent, atDeadline, atDigest, atEpoch, atHasNext, atHasPeer, atLease, atMsg1, atMsg1Bytes, atMsg2, atMsg2Bytes, atNextResend, atPeer, atReplaces, atSent, legWidth}
+use Rattle.legs_entry.specs.View.{answerFrom, BlankCells, FitLegs, legCount, legAt}
 use Rattle.legs_entry.specs.Entry.{num-zeros, fit-here, leg-here}
 
 pub there : {A : Type 0} (z : A) (o : Option A) → is o ≡ true → o ≡ some (orBlank z o)
@@ -92,66 +93,66 @@ no-answer fs b = rw (b .marked, b .replaces, b .epoch, b .digest, b .len2)
 
 -- ---- cells, where they stand
 module _ {s : Bytes} {i : ℕ} (f : FitLegs s) (h : i < legCount s) where
-  pub link-here : num (take 8 (drop (i * 351) s)) ≡ legAt s i .link
-  link-here = ap (λ (a : ℕ). num (take 8 (drop a s))) (sym (add-zero (i * 351))) ∙ ap (λ (g : Leg). g .link) (leg-here s i f h)
+  pub link-here : num (take 8 (drop (i * legWidth) s)) ≡ legAt s i .link
+  link-here = ap (λ (a : ℕ). num (take 8 (drop a s))) (sym (add-zero (i * legWidth))) ∙ ap (λ (g : Leg). g .link) (leg-here s i f h)
 
-  pub deadline-here : num (take 8 (drop (i * 351 + 8) s)) ≡ legAt s i .deadline
+  pub deadline-here : num (take 8 (drop (i * legWidth + atDeadline) s)) ≡ legAt s i .deadline
   deadline-here = ap (λ (g : Leg). g .deadline) (leg-here s i f h)
 
-  pub lease-here : num (take 4 (drop (i * 351 + 29) s)) ≡ legAt s i .lease
+  pub lease-here : num (take 4 (drop (i * legWidth + atLease) s)) ≡ legAt s i .lease
   lease-here = ap (λ (g : Leg). g .lease) (leg-here s i f h)
 
-  pub sent-here : num (take 4 (drop (i * 351 + 25) s)) ≡ legAt s i .sent
+  pub sent-here : num (take 4 (drop (i * legWidth + atSent) s)) ≡ legAt s i .sent
   sent-here = ap (λ (g : Leg). g .sent) (leg-here s i f h)
 
-  pub answers-here : flagOf (take 1 (drop (i * 351 + 33) s)) ≡ answers (legAt s i)
-  answers-here = is-answer (flagOf (take 1 (drop (i * 351 + 33) s))) (answerFrom (cuts (i * 351) 0 legWs s)) ∙ ap answers (leg-here s i f h)
+  pub answers-here : flagOf (take 1 (drop (i * legWidth + atAnswer) s)) ≡ answers (legAt s i)
+  answers-here = is-answer (flagOf (take 1 (drop (i * legWidth + atAnswer) s))) (answerFrom (cuts (i * legWidth) 0 legWs s)) ∙ ap answers (leg-here s i f h)
 
-  pub named-here : flagOf (take 1 (drop (i * 351 + 34) s)) ≡ is (legAt s i .peer)
-  named-here = is-flag (flagOf (take 1 (drop (i * 351 + 34) s))) (take 16 (drop (i * 351 + 35) s)) ∙ ap (λ (g : Leg). is (g .peer)) (leg-here s i f h)
+  pub named-here : flagOf (take 1 (drop (i * legWidth + atHasPeer) s)) ≡ is (legAt s i .peer)
+  named-here = is-flag (flagOf (take 1 (drop (i * legWidth + atHasPeer) s))) (take 16 (drop (i * legWidth + atPeer) s)) ∙ ap (λ (g : Leg). is (g .peer)) (leg-here s i f h)
 
-  pub peer-here : take 16 (drop (i * 351 + 35) s) ≡ namedPeer (legAt s i)
-  peer-here = value-is (flagOf (take 1 (drop (i * 351 + 34) s))) (take 16 (drop (i * 351 + 35) s)) (replicate 16 0) (fit-here s i f h .peer .blank) ∙ ap namedPeer (leg-here s i f h)
+  pub peer-here : take 16 (drop (i * legWidth + atPeer) s) ≡ namedPeer (legAt s i)
+  peer-here = value-is (flagOf (take 1 (drop (i * legWidth + atHasPeer) s))) (take 16 (drop (i * legWidth + atPeer) s)) (replicate 16 0) (fit-here s i f h .peer .blank) ∙ ap namedPeer (leg-here s i f h)
 
-  pub timed-here : flagOf (take 1 (drop (i * 351 + 16) s)) ≡ is (legAt s i .next)
-  timed-here = is-flag (flagOf (take 1 (drop (i * 351 + 16) s))) (num (take 8 (drop (i * 351 + 17) s))) ∙ ap (λ (g : Leg). is (g .next)) (leg-here s i f h)
+  pub timed-here : flagOf (take 1 (drop (i * legWidth + atHasNext) s)) ≡ is (legAt s i .next)
+  timed-here = is-flag (flagOf (take 1 (drop (i * legWidth + atHasNext) s))) (num (take 8 (drop (i * legWidth + atNextResend) s))) ∙ ap (λ (g : Leg). is (g .next)) (leg-here s i f h)
 
-  pub next-here : num (take 8 (drop (i * 351 + 17) s)) ≡ nextResend (legAt s i)
+  pub next-here : num (take 8 (drop (i * legWidth + atNextResend) s)) ≡ nextResend (legAt s i)
   next-here =
-      value-is (flagOf (take 1 (drop (i * 351 + 16) s))) (num (take 8 (drop (i * 351 + 17) s))) 0 (λ e. ap num (fit-here s i f h .next .blank e) ∙ num-zeros)
+      value-is (flagOf (take 1 (drop (i * legWidth + atHasNext) s))) (num (take 8 (drop (i * legWidth + atNextResend) s))) 0 (λ e. ap num (fit-here s i f h .next .blank e) ∙ num-zeros)
       ∙ ap nextResend (leg-here s i f h)
 
-  answer-here : answerFrom (cuts (i * 351) 0 legWs s) ≡ answerOf (legAt s i)
+  answer-here : answerFrom (cuts (i * legWidth) 0 legWs s) ≡ answerOf (legAt s i)
   answer-here =
-      answer-is (flagOf (take 1 (drop (i * 351 + 33) s))) (answerFrom (cuts (i * 351) 0 legWs s)) (λ e. no-answer (cuts (i * 351) 0 legWs s) (fit-here s i f h .dial e))
+      answer-is (flagOf (take 1 (drop (i * legWidth + atAnswer) s))) (answerFrom (cuts (i * legWidth) 0 legWs s)) (λ e. no-answer (cuts (i * legWidth) 0 legWs s) (fit-here s i f h .dial e))
       ∙ ap answerOf (leg-here s i f h)
 
-  pub marked-here : flagOf (take 1 (drop (i * 351 + 51) s)) ≡ answerOf (legAt s i) .sent
+  pub marked-here : flagOf (take 1 (drop (i * legWidth + atAnswerSent) s)) ≡ answerOf (legAt s i) .sent
   marked-here = ap (λ (a : Answered). a .sent) answer-here
 
-  pub replaces-here : flagOf (take 1 (drop (i * 351 + 52) s)) ≡ answerOf (legAt s i) .replaces
+  pub replaces-here : flagOf (take 1 (drop (i * legWidth + atReplaces) s)) ≡ answerOf (legAt s i) .replaces
   replaces-here = ap (λ (a : Answered). a .replaces) answer-here
 
-  pub epoch-here : num (take 8 (drop (i * 351 + 53) s)) ≡ answerOf (legAt s i) .epoch
+  pub epoch-here : num (take 8 (drop (i * legWidth + atEpoch) s)) ≡ answerOf (legAt s i) .epoch
   epoch-here = ap (λ (a : Answered). a .epoch) answer-here
 
-  pub digest-here : take 32 (drop (i * 351 + 61) s) ≡ answerOf (legAt s i) .ephemeral
+  pub digest-here : take 32 (drop (i * legWidth + atDigest) s) ≡ answerOf (legAt s i) .ephemeral
   digest-here = ap (λ (a : Answered). a .ephemeral) answer-here
 
-  stands : {bs : Bytes} (n o : ℕ) → n ≤ 128 → o + 128 ≤ 351 → take n (take 128 (drop (i * 351 + o) s)) ≡ bs → Stands bs (i * 351 + o) n s
+  stands : {bs : Bytes} (n o : ℕ) → n ≤ 128 → o + 128 ≤ legWidth → take n (take 128 (drop (i * legWidth + o) s)) ≡ bs → Stands bs (i * legWidth + o) n s
   stands n o p q e =
-      let z : take n (take 128 (drop (i * 351 + o) s)) ≡ take n (drop (i * 351 + o) s) = take-take n 128 (drop (i * 351 + o) s) p in
-      record { small = p; room = omega arith; size = ap length (sym e ∙ z) ∙ length-take-le n (drop (i * 351 + o) s) (rw length-drop (omega arith)); is = sym z ∙ e }
+      let z : take n (take 128 (drop (i * legWidth + o) s)) ≡ take n (drop (i * legWidth + o) s) = take-take n 128 (drop (i * legWidth + o) s) p in
+      record { small = p; room = omega arith; size = ap length (sym e ∙ z) ∙ length-take-le n (drop (i * legWidth + o) s) (rw length-drop (omega arith)); is = sym z ∙ e }
 
-  pub msg1-here : {n : ℕ} → n ≡ byteOf (take 1 (drop (i * 351 + 93) s)) → Stands (legAt s i .msg1) (i * 351 + 94) n s
+  pub msg1-here : {n : ℕ} → n ≡ byteOf (take 1 (drop (i * legWidth + atMsg1) s)) → Stands (legAt s i .msg1) (i * legWidth + atMsg1Bytes) n s
   msg1-here {n} e =
       let k = fit-here s i f h .msg1 .kept .small in
-      stands n 94 (omega arith) (lit≤ tt) (rw e (ap (λ (g : Leg). g .msg1) (leg-here s i f h)))
+      stands n atMsg1Bytes (omega arith) (lit≤ tt) (rw e (ap (λ (g : Leg). g .msg1) (leg-here s i f h)))
 
-  pub msg2-here : {n : ℕ} → n ≡ byteOf (take 1 (drop (i * 351 + 222) s)) → Stands (answerOf (legAt s i) .msg2) (i * 351 + 223) n s
+  pub msg2-here : {n : ℕ} → n ≡ byteOf (take 1 (drop (i * legWidth + atMsg2) s)) → Stands (answerOf (legAt s i) .msg2) (i * legWidth + atMsg2Bytes) n s
   msg2-here {n} e =
       let k = fit-here s i f h .msg2 .kept .small in
-      stands n 223 (omega arith) (lit≤ tt) (rw e (ap (λ (a : Answered). a .msg2) answer-here))
+      stands n atMsg2Bytes (omega arith) (lit≤ tt) (rw e (ap (λ (a : Answered). a .msg2) answer-here))
 
 -- ---- whether a leg yields its msg2
 module _ (bs : Bytes) (g : Leg) where

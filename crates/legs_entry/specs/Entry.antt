@@ -24,8 +24,10 @@ use Rattle.node_addr.specs.View.{FitMessage, viewMessage}
 use Rattle.node_addr.specs.Alike.{part-of}
 use Rattle.node_addr.specs.Place.{messageOf, MessageCell, messageCell, message-parts}
 use Rattle.node_addr.specs.declared.Message as message
+use Rattle.node_addr.specs.Layout.{messageWidth}
+use Rattle.legs_entry.specs.Layout.{legWs, atAnswer, atAnswerSent, atDeadline, atDigest, atEpoch, atHasNext, atHasPeer, atLease, atMsg1, atMsg2, atNextResend, atPeer, atReplaces, atSent, legCap, legWidth}
 use Rattle.legs_entry.specs.declared.leg.Leg as leg
-use Rattle.legs_entry.specs.View.{legWs, legFrom, legOf, BlankCells, FitCells, FitLegCell, FitLegs, legCount, noLeg, legAt, viewLeg, BlankLeg, FitLeg}
+use Rattle.legs_entry.specs.View.{legFrom, legOf, BlankCells, FitCells, FitLegCell, FitLegs, legCount, noLeg, legAt, viewLeg, BlankLeg, FitLeg}
 
 -- ---- what is written
 abbrev pub legFields : leg.Leg → List Bytes
@@ -49,8 +51,8 @@ unfolding legBytes joined messageCell
 bytes-are l = simp (append-assoc, append-nil)
 
 pub put-leg-is : (l : leg.Leg) {xs : Bytes} {at : ℕ} {ys : Bytes} {r : ℕ}
-    → Wrote xs at 351 (timeBytes l ++ endBytes l ++ messageCell (l .msg1) ++ messageCell (l .msg2)) ys r → Wrote xs at 351 (legBytes l) ys r
-put-leg-is l {xs} {at} {ys} {r} w = subst (λ (b : Bytes). Wrote xs at 351 b ys r) (bytes-are l) w
+    → Wrote xs at legWidth (timeBytes l ++ endBytes l ++ messageCell (l .msg1) ++ messageCell (l .msg2)) ys r → Wrote xs at legWidth (legBytes l) ys r
+put-leg-is l {xs} {at} {ys} {r} w = subst (λ (b : Bytes). Wrote xs at legWidth b ys r) (bytes-are l) w
 
 -- ---- what was written is read
 
@@ -135,35 +137,35 @@ leg-bytes l f b =
     )
 
 -- ---- the cells of the i-th leg, where they stand
-pub cells-here : (s : Bytes) (i : ℕ) → FitLegs s → i < legCount s → cuts (i * 351) 0 legWs s ≡ cuts 0 0 legWs (getD (chunks 351 32 s) i [])
+pub cells-here : (s : Bytes) (i : ℕ) → FitLegs s → i < legCount s → cuts (i * legWidth) 0 legWs s ≡ cuts 0 0 legWs (getD (chunks legWidth legCap s) i [])
 unfolding sum
-cells-here s i f h = cuts-at 351 32 s i [] 0 legWs (omega arith) (lit≤ tt) (omega arith)
+cells-here s i f h = cuts-at legWidth legCap s i [] 0 legWs (omega arith) (lit≤ tt) (omega arith)
 
-pub fit-here : (s : Bytes) (i : ℕ) → FitLegs s → i < legCount s → FitCells (cuts (i * 351) 0 legWs s)
+pub fit-here : (s : Bytes) (i : ℕ) → FitLegs s → i < legCount s → FitCells (cuts (i * legWidth) 0 legWs s)
 fit-here s i f h = subst FitCells (sym (cells-here s i f h)) (fit-at legOf i [] (f .kept) h)
 
-pub leg-here : (s : Bytes) (i : ℕ) → FitLegs s → i < legCount s → legFrom (cuts (i * 351) 0 legWs s) ≡ legAt s i
+pub leg-here : (s : Bytes) (i : ℕ) → FitLegs s → i < legCount s → legFrom (cuts (i * legWidth) 0 legWs s) ≡ legAt s i
 leg-here s i f h = ap legFrom (cells-here s i f h) ∙ shown legOf i [] noLeg (f .kept) h
 
 -- l was read at a
 pub record Loaded (l : leg.Leg) (a : ℕ) (s : Bytes) : Type 0 where
   pub link : l .link .0 ≡ num (take 8 (drop a s))
-  pub deadline : l .deadline ≡ num (take 8 (drop (a + 8) s))
-  pub timed : l .timed ≡ flagOf (take 1 (drop (a + 16) s))
-  pub next : l .next ≡ num (take 8 (drop (a + 17) s))
-  pub sent : l .sent ≡ num (take 4 (drop (a + 25) s))
-  pub lease : l .lease ≡ num (take 4 (drop (a + 29) s))
-  pub answer : l .answer ≡ flagOf (take 1 (drop (a + 33) s))
-  pub named : l .named ≡ flagOf (take 1 (drop (a + 34) s))
-  pub peer : l .peer .0 ≡ take 16 (drop (a + 35) s)
-  pub marked : l .marked ≡ flagOf (take 1 (drop (a + 51) s))
-  pub replaces : l .replaces ≡ flagOf (take 1 (drop (a + 52) s))
-  pub epoch : l .epoch ≡ num (take 8 (drop (a + 53) s))
-  pub digest : l .digest .0 ≡ take 32 (drop (a + 61) s)
+  pub deadline : l .deadline ≡ num (take 8 (drop (a + atDeadline) s))
+  pub timed : l .timed ≡ flagOf (take 1 (drop (a + atHasNext) s))
+  pub next : l .next ≡ num (take 8 (drop (a + atNextResend) s))
+  pub sent : l .sent ≡ num (take 4 (drop (a + atSent) s))
+  pub lease : l .lease ≡ num (take 4 (drop (a + atLease) s))
+  pub answer : l .answer ≡ flagOf (take 1 (drop (a + atAnswer) s))
+  pub named : l .named ≡ flagOf (take 1 (drop (a + atHasPeer) s))
+  pub peer : l .peer .0 ≡ take 16 (drop (a + atPeer) s)
+  pub marked : l .marked ≡ flagOf (take 1 (drop (a + atAnswerSent) s))
+  pub replaces : l .replaces ≡ flagOf (take 1 (drop (a + atReplaces) s))
+  pub epoch : l .epoch ≡ num (take 8 (drop (a + atEpoch) s))
+  pub digest : l .digest .0 ≡ take 32 (drop (a + atDigest) s)
   pub fit1 : FitMessage (l .msg1)
-  pub msg1 : viewMessage (l .msg1) ≡ messageOf (take 129 (drop (a + 93) s))
+  pub msg1 : viewMessage (l .msg1) ≡ messageOf (take messageWidth (drop (a + atMsg1) s))
   pub fit2 : FitMessage (l .msg2)
-  pub msg2 : viewMessage (l .msg2) ≡ messageOf (take 129 (drop (a + 222) s))
+  pub msg2 : viewMessage (l .msg2) ≡ messageOf (take messageWidth (drop (a + atMsg2) s))
 
 -- where the flag is not set
 clear : {f s : Bytes} {w : ℕ} {b : Bool} → Optional w f s → b ≡ flagOf f → b ≡ false → s ≡ replicate w 0
@@ -177,7 +179,7 @@ one-more : (a o : ℕ) → a + o + 1 ≡ a + (o + 1)
 one-more a o = omega arith
 
 -- a message at a place, as a length and its bytes
-message-is : (s : Bytes) (a o : ℕ) → messageOf (take 129 (drop (a + o) s)) ≡ textOf (take 1 (drop (a + o) s)) (take 128 (drop (a + (o + 1)) s))
+message-is : (s : Bytes) (a o : ℕ) → messageOf (take messageWidth (drop (a + o) s)) ≡ textOf (take 1 (drop (a + o) s)) (take 128 (drop (a + (o + 1)) s))
 message-is s a o = message-parts s (a + o) ∙ ap (λ (k : ℕ). textOf (take 1 (drop (a + o) s)) (take 128 (drop k s))) (one-more a o)
 
 -- an empty message is blank
@@ -186,10 +188,10 @@ blank-message {m} f e =
     let z : m .len ≡ 0 = sym (kept-length (f .kept)) ∙ ap length e in
     (z, rw z at (f .kept .rest))
 
-blank-loaded : (l : leg.Leg) (s : Bytes) (i : ℕ) → Loaded l (i * 351) s → BlankCells (cuts (i * 351) 0 legWs s) → BlankLeg l
+blank-loaded : (l : leg.Leg) (s : Bytes) (i : ℕ) → Loaded l (i * legWidth) s → BlankCells (cuts (i * legWidth) 0 legWs s) → BlankLeg l
 unfolding more
 blank-loaded l s i r b =
-    let m = blank-message (r .fit2) (r .msg2 ∙ message-is s (i * 351) 222 ∙ rw (b .len2)) in
+    let m = blank-message (r .fit2) (r .msg2 ∙ message-is s (i * legWidth) atMsg2 ∙ rw (b .len2)) in
     record {
       marked = r .marked ∙ rw (b .marked);
       replaces = r .replaces ∙ rw (b .replaces);
@@ -199,15 +201,15 @@ blank-loaded l s i r b =
       msg2 = m .1;
     }
 
-pub leg-loaded : (s : Bytes) (i : ℕ) (l : leg.Leg) → FitLegs s → i < legCount s → Loaded l (i * 351) s → FitLeg l × (viewLeg l ≡ legAt s i)
+pub leg-loaded : (s : Bytes) (i : ℕ) (l : leg.Leg) → FitLegs s → i < legCount s → Loaded l (i * legWidth) s → FitLeg l × (viewLeg l ≡ legAt s i)
 leg-loaded s i l f h r =
-    let z : i * 351 + 0 ≡ i * 351 = add-zero (i * 351) in
+    let z : i * legWidth + 0 ≡ i * legWidth = add-zero (i * legWidth) in
     let k = fit-here s i f h in
-    let v : viewLeg l ≡ legFrom (cuts (i * 351) 0 legWs s) =
-    rw (r .link, r .deadline, r .timed, r .next, r .sent, r .lease, r .answer, r .named, r .peer, r .marked, r .replaces, r .epoch, r .digest, r .msg1, r .msg2, message-is s (i * 351) 93, message-is s (i * 351) 222, z) in (
+    let v : viewLeg l ≡ legFrom (cuts (i * legWidth) 0 legWs s) =
+    rw (r .link, r .deadline, r .timed, r .next, r .sent, r .lease, r .answer, r .named, r .peer, r .marked, r .replaces, r .epoch, r .digest, r .msg1, r .msg2, message-is s (i * legWidth) atMsg1, message-is s (i * legWidth) atMsg2, z) in (
       record {
         peer = rw (r .peer) (k .peer .size);
-        digest = rw (r .digest) (length-take-le 32 (drop (i * 351 + 61) s) (rw length-drop (omega arith)));
+        digest = rw (r .digest) (length-take-le 32 (drop (i * legWidth + atDigest) s) (rw length-drop (omega arith)));
         msg1 = r .fit1;
         msg2 = r .fit2;
         untimed = λ e. r .next ∙ ap num (clear (k .next) (r .timed) e) ∙ num-zeros;
@@ -219,19 +221,19 @@ leg-loaded s i l f h r =
 
 -- a message's cell is canonical
 module _ {s : Bytes} {i : ℕ} (f : FitLegs s) (h : i < legCount s) where
-  cell-at : (o : ℕ) → o + 129 ≤ 351 → Text 128 (take 1 (drop (i * 351 + o) s)) (take 128 (drop (i * 351 + (o + 1)) s)) → MessageCell (take 129 (drop (i * 351 + o) s))
+  cell-at : (o : ℕ) → o + messageWidth ≤ legWidth → Text 128 (take 1 (drop (i * legWidth + o) s)) (take 128 (drop (i * legWidth + (o + 1)) s)) → MessageCell (take messageWidth (drop (i * legWidth + o) s))
   cell-at o p t = record {
-    size = length-take-le 129 (drop (i * 351 + o) s) (rw length-drop (omega arith));
-    text = rw (part-of 0 1 129 (drop (i * 351 + o) s) (lit≤ tt), tail-is) t;
+    size = length-take-le messageWidth (drop (i * legWidth + o) s) (rw length-drop (omega arith));
+    text = rw (part-of 0 1 messageWidth (drop (i * legWidth + o) s) (lit≤ tt), tail-is) t;
   }
     where
-      tail-is : take 128 (drop 1 (take 129 (drop (i * 351 + o) s))) ≡ take 128 (drop (i * 351 + (o + 1)) s)
+      tail-is : take 128 (drop 1 (take messageWidth (drop (i * legWidth + o) s))) ≡ take 128 (drop (i * legWidth + (o + 1)) s)
       tail-is =
-          part-of 1 128 129 (drop (i * 351 + o) s) (lit≤ tt) ∙ ap (λ (u : Bytes). take 128 u) (drop-drop 1 (i * 351 + o) s)
-          ∙ ap (λ (k : ℕ). take 128 (drop k s)) (one-more (i * 351) o)
+          part-of 1 128 messageWidth (drop (i * legWidth + o) s) (lit≤ tt) ∙ ap (λ (u : Bytes). take 128 u) (drop-drop 1 (i * legWidth + o) s)
+          ∙ ap (λ (k : ℕ). take 128 (drop k s)) (one-more (i * legWidth) o)
 
-  pub msg1-cell : MessageCell (take 129 (drop (i * 351 + 93) s))
+  pub msg1-cell : MessageCell (take messageWidth (drop (i * legWidth + atMsg1) s))
   msg1-cell = cell-at 93 (lit≤ tt) (fit-here s i f h .msg1)
 
-  pub msg2-cell : MessageCell (take 129 (drop (i * 351 + 222) s))
+  pub msg2-cell : MessageCell (take messageWidth (drop (i * legWidth + atMsg2) s))
   msg2-cell = cell-at 222 (lit≤ tt) (fit-here s i f h .msg2)

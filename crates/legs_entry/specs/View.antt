@@ -13,12 +13,10 @@ use Rattle.lib_laws.specs.Cell.{num, flagOf, textOf, optionNum, optionBytes, Co
 use Rattle.lib_laws.specs.Fields.{cuts}
 use Rattle.lib_laws.specs.Store.{Store, entries}
 use Rattle.node_addr.specs.View.{viewMessage, FitMessage}
+use Rattle.legs_entry.specs.Layout.{legWs, atLegCount, legCap, legWidth}
 use Rattle.legs_entry.specs.declared.leg.Leg as leg
 
 -- ---- an entry: link, deadline, timed, next, sent, lease, answer, named, peer, marked, replaces, epoch, digest, msg1 and msg2 with their lengths
-abbrev pub legWs : List ℕ
-legWs = 8 ∷ 8 ∷ 1 ∷ 8 ∷ 4 ∷ 4 ∷ 1 ∷ 1 ∷ 16 ∷ 1 ∷ 1 ∷ 8 ∷ 32 ∷ 1 ∷ 128 ∷ 1 ∷ 128 ∷ []
-
 -- the k-th cell
 abbrev pub cell : List Bytes → ℕ → Bytes
 cell fs k = getD fs k []
@@ -75,16 +73,16 @@ FitLegCell c = FitCells (cuts 0 0 legWs c)
 
 -- ---- the region
 abbrev pub viewLegs : Bytes → List Leg
-viewLegs s = entries legOf 351 32 s
+viewLegs s = entries legOf legWidth legCap s
 
 abbrev pub FitLegs : Bytes → Type 0
-FitLegs s = Store FitLegCell 351 32 s
+FitLegs s = Store FitLegCell legWidth legCap s
 
 abbrev pub legCount : Bytes → ℕ
-legCount s = getD s 11232 0
+legCount s = getD s atLegCount 0
 
 abbrev pub noLeg : Leg
-noLeg = legOf (replicate 351 0)
+noLeg = legOf (replicate legWidth 0)
 
 -- the i-th leg
 abbrev pub legAt : Bytes → ℕ → Leg
@@ -94,7 +92,7 @@ legAt s i = getD (viewLegs s) i noLeg
 no-text : Text 128 (0 ∷ []) (replicate 128 0)
 no-text = record { size = refl; kept = record { small = lit≤ tt; size = refl; rest = refl; each = all-any (replicate 128 0) } }
 
-pub fit-zeros : FitLegCell (replicate 351 0)
+pub fit-zeros : FitLegCell (replicate legWidth 0)
 fit-zeros = record {
   next = record { flag = record { size = refl; low = lit< tt }; size = refl; blank = λ e. refl };
   answer = record { size = refl; low = lit< tt };

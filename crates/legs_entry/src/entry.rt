@@ -1,7 +1,24 @@
 // A leg read from its entry, and written to it.
+use crate::layout::ANSWER;
+use crate::layout::ANSWER_SENT;
+use crate::layout::DEADLINE;
+use crate::layout::DIGEST;
+use crate::layout::EPOCH;
+use crate::layout::HAS_NEXT;
+use crate::layout::HAS_PEER;
+use crate::layout::LEASE;
+use crate::layout::LEG_WIDTH;
+use crate::layout::MSG1;
+use crate::layout::MSG2;
+use crate::layout::NEXT;
+use crate::layout::PEER;
+use crate::layout::REPLACES;
+use crate::layout::SENT;
 use crate::leg::Leg;
 use lib_bytes::flag::get_flag;
 use lib_bytes::flag::put_flag;
+use lib_bytes::layout::U32;
+use lib_bytes::layout::U64;
 use lib_bytes::read::get_be;
 use lib_bytes::write::put_be;
 use node_addr::LinkNo;
@@ -17,6 +34,7 @@ ghost use lib.ListN.{length};
 ghost use Rattle.lib_laws.specs.Splice.{Wrote};
 ghost use Rattle.legs_entry.specs.View.{FitLeg, FitLegs, viewLeg, legCount, legAt};
 ghost use Rattle.legs_entry.specs.Entry.{legBytes, timeBytes, endBytes};
+ghost use Rattle.legs_entry.specs.Layout.{legWidth};
 
 // The i-th leg.
 pub fn get_leg(s: &[u8], i: usize) -> Leg
@@ -25,25 +43,25 @@ pub fn get_leg(s: &[u8], i: usize) -> Leg
     ensures { λ r. ⌜ FitLeg r ⌝ }
     ensures { λ r. ⌜ viewLeg r ≡ legAt (now (s .entry)) i ⌝ }
 {
-    let a = i * 351;
-    let link = get_be(s, a, 8);
-    let peer = load_node(s, a + 35);
-    let digest = load_digest(s, a + 61);
-    let msg1 = load_message(s, a + 93);
-    let msg2 = load_message(s, a + 222);
+    let a = i * LEG_WIDTH;
+    let link = get_be(s, a, U64);
+    let peer = load_node(s, a + PEER);
+    let digest = load_digest(s, a + DIGEST);
+    let msg1 = load_message(s, a + MSG1);
+    let msg2 = load_message(s, a + MSG2);
     Leg {
         link: LinkNo(link),
-        deadline: get_be(s, a + 8, 8),
-        timed: get_flag(s, a + 16),
-        next: get_be(s, a + 17, 8),
-        sent: get_be(s, a + 25, 4) as u32,
-        lease: get_be(s, a + 29, 4) as u32,
-        answer: get_flag(s, a + 33),
-        named: get_flag(s, a + 34),
+        deadline: get_be(s, a + DEADLINE, U64),
+        timed: get_flag(s, a + HAS_NEXT),
+        next: get_be(s, a + NEXT, U64),
+        sent: get_be(s, a + SENT, U32) as u32,
+        lease: get_be(s, a + LEASE, U32) as u32,
+        answer: get_flag(s, a + ANSWER),
+        named: get_flag(s, a + HAS_PEER),
         peer: peer,
-        marked: get_flag(s, a + 51),
-        replaces: get_flag(s, a + 52),
-        epoch: get_be(s, a + 53, 8),
+        marked: get_flag(s, a + ANSWER_SENT),
+        replaces: get_flag(s, a + REPLACES),
+        epoch: get_be(s, a + EPOCH, U64),
         digest: digest,
         msg1: msg1,
         msg2: msg2,
@@ -54,12 +72,12 @@ fn put_times(s: &mut [u8], at: usize, l: Leg) -> usize
     requires { ⌜ at + 33 ≤ length (now s) ⌝ }
     ensures { λ r. ⌜ Wrote (now (s .entry)) at 33 (timeBytes l) (now (s .exit)) r ⌝ }
 {
-    let a = put_be(s, at, l.link.0, 8);
-    let b = put_be(s, a, l.deadline, 8);
+    let a = put_be(s, at, l.link.0, U64);
+    let b = put_be(s, a, l.deadline, U64);
     let c = put_flag(s, b, l.timed);
-    let d = put_be(s, c, l.next, 8);
-    let e = put_be(s, d, l.sent as u64, 4);
-    put_be(s, e, l.lease as u64, 4)
+    let d = put_be(s, c, l.next, U64);
+    let e = put_be(s, d, l.sent as u64, U32);
+    put_be(s, e, l.lease as u64, U32)
 }
 
 fn put_ends(s: &mut [u8], at: usize, l: Leg) -> usize
@@ -73,15 +91,15 @@ fn put_ends(s: &mut [u8], at: usize, l: Leg) -> usize
     let c = put_node(s, b, peer);
     let d = put_flag(s, c, l.marked);
     let e = put_flag(s, d, l.replaces);
-    let f = put_be(s, e, l.epoch, 8);
+    let f = put_be(s, e, l.epoch, U64);
     put_digest(s, f, digest)
 }
 
 // The bytes of a leg, at a place.
 pub fn put_leg(s: &mut [u8], at: usize, l: Leg) -> usize
     requires { ⌜ FitLeg l ⌝ }
-    requires { ⌜ at + 351 ≤ length (now s) ⌝ }
-    ensures { λ r. ⌜ Wrote (now (s .entry)) at 351 (legBytes l) (now (s .exit)) r ⌝ }
+    requires { ⌜ at + legWidth ≤ length (now s) ⌝ }
+    ensures { λ r. ⌜ Wrote (now (s .entry)) at legWidth (legBytes l) (now (s .exit)) r ⌝ }
 {
     let m = l.msg1;
     let n = l.msg2;

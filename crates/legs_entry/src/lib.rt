@@ -2,4 +2,5 @@
 pub mod at;
 pub mod cell;
 pub mod entry;
+pub mod layout;
 pub mod leg;

@@ -34,6 +34,11 @@ abbrev pub cuts : ℕ → ℕ → List ℕ → List ℕ → List (List ℕ)
 cuts b o [] c = []
 cuts b o (w ∷ ws) c = take w (drop (b + o) c) ∷ cuts b (o + w) ws c
 
+-- where each of the fields ends, the first at a
+abbrev pub ends : ℕ → List ℕ → List ℕ
+ends a [] = []
+ends a (w ∷ ws) = (a + w) ∷ ends (a + w) ws
+
 cuts-past : (b o : ℕ) (ws c : List ℕ) (a : ℕ) (bs : List ℕ) → a + length bs ≤ b + o → a + length bs ≤ length c → cuts b o ws (splice c a bs) ≡ cuts b o ws c
 cuts-past b o [] c a bs h k = refl
 cuts-past b o (w ∷ ws) c a bs h k = rw (part-after (b + o) w c a bs h k, cuts-past b (o + w) ws c a bs (omega arith) k)

@@ -27,9 +27,10 @@ use Rattle.lib_laws.specs.Store.{changed-is, entries-count}
 use Rattle.node_addr.specs.View.{viewPair, FitPair}
 use Rattle.node_addr.specs.Place.{pairCell, pair-cell-length, pair-cell-fit, pair-cell-shows}
 use Rattle.node_addr.specs.declared.Pair as pair
-use Rattle.links_entry.specs.View.{viewPaths, FitPaths, linkWs, dirOf, dirCode, linkFrom, linkOf, FitFields, FitLink, viewLinks, FitLinks, linkCount, noLink, withPaths, withReleased, markedAt, cutAt}
+use Rattle.links_entry.specs.View.{viewPaths, FitPaths, dirOf, dirCode, linkFrom, linkOf, FitFields, FitLink, viewLinks, FitLinks, linkCount, noLink, withPaths, withReleased, markedAt, cutAt}
 use Rattle.links_entry.specs.Here.{span, span-is, paths-show}
 use Rattle.links_entry.specs.Zeros.{paths-zeros}
+use Rattle.links_entry.specs.Layout.{atHolder, atPaths, atReleased, linkWidth, pathsLen, linkWs}
 
 -- ---- codes
 dir-shows : (d : Dir) → dirOf (dirCode d) ≡ d
@@ -82,7 +83,7 @@ place-left {s} {l} {i} x f g e h =
     omega arith
 
 -- ---- fields of a link
-module _ (c bs : Bytes) (z : length c ≡ 297) where
+module _ (c bs : Bytes) (z : length c ≡ linkWidth) where
   holder-cuts : length bs ≡ 17 → cuts 0 0 linkWs (splice c 62 bs) ≡ set (cuts 0 0 linkWs c) 3 bs
   unfolding sum
   holder-cuts e = cuts-set 0 0 linkWs c 3 62 bs (lit< tt) (omega arith) e refl
@@ -91,12 +92,12 @@ module _ (c bs : Bytes) (z : length c ≡ 297) where
   unfolding sum
   released-cuts e = cuts-set 0 0 linkWs c 4 79 bs (lit< tt) (omega arith) e refl
 
-  paths-cuts : length bs ≡ 217 → cuts 0 0 linkWs (splice c 80 bs) ≡ set (cuts 0 0 linkWs c) 5 bs
+  paths-cuts : length bs ≡ pathsLen → cuts 0 0 linkWs (splice c 80 bs) ≡ set (cuts 0 0 linkWs c) 5 bs
   unfolding sum
   paths-cuts e = cuts-set 0 0 linkWs c 5 80 bs (lit< tt) (omega arith) e refl
 
 -- held by a peer
-module _ (peer c : Bytes) (e : length peer ≡ 16) (z : length c ≡ 297) where
+module _ (peer c : Bytes) (e : length peer ≡ 16) (z : length c ≡ linkWidth) where
   holder-keeps : FitLink c → FitLink (splice c 62 (0 ∷ peer))
   holder-keeps f =
       subst FitFields (sym (holder-cuts c (0 ∷ peer) z (ap suc e)))
@@ -105,13 +106,13 @@ module _ (peer c : Bytes) (e : length peer ≡ 16) (z : length c ≡ 297) where
   holder-put : linkOf (splice c 62 (0 ∷ peer)) ≡ heldBy (APeer peer) (linkOf c)
   holder-put = ap linkFrom (holder-cuts c (0 ∷ peer) z (ap suc e)) ∙ rw (take-all 16 peer (omega arith))
 
-pub held-is : {s l : Bytes} {i q : ℕ} {peer : Bytes} → Wrote s (i * 297 + 62) 17 (0 ∷ peer) l q → FitLinks s → i < linkCount s → length peer ≡ 16
+pub held-is : {s l : Bytes} {i q : ℕ} {peer : Bytes} → Wrote s (i * linkWidth + atHolder) 17 (0 ∷ peer) l q → FitLinks s → i < linkCount s → length peer ≡ 16
     → FitLinks l × (viewLinks l ≡ set (viewLinks s) i (heldBy (APeer peer) (getD (viewLinks s) i noLink)))
 held-is {i = i} {peer = peer} w f h e =
     changed-is linkOf (heldBy (APeer peer)) i 62 noLink w f h (lit≤ tt) (λ c z. holder-keeps peer c e z) (λ c z. holder-put peer c e z)
 
 -- the released flag
-module _ (b : Bool) (c : Bytes) (z : length c ≡ 297) where
+module _ (b : Bool) (c : Bytes) (z : length c ≡ linkWidth) where
   released-keeps : FitLink c → FitLink (splice c 79 (one b ∷ []))
   released-keeps f =
       subst FitFields (sym (released-cuts c (one b ∷ []) z refl))
@@ -120,16 +121,16 @@ module _ (b : Bool) (c : Bytes) (z : length c ≡ 297) where
   released-put : linkOf (splice c 79 (one b ∷ [])) ≡ withReleased b (linkOf c)
   released-put = ap linkFrom (released-cuts c (one b ∷ []) z refl) ∙ rw (flag-shows b)
 
-pub marked-is : {s l : Bytes} {i q k : ℕ} (p : Pair) {x y b : Bool} → Wrote s (i * 297 + 79) 1 (k ∷ []) l q → FitLinks s → i < linkCount s
+pub marked-is : {s l : Bytes} {i q k : ℕ} (p : Pair) {x y b : Bool} → Wrote s (i * linkWidth + atReleased) 1 (k ∷ []) l q → FitLinks s → i < linkCount s
     → k ≡ one b → b ≡ (x || y) → x ≡ getD (viewLinks s) i noLink .released → y ≡ samePair p (getD (viewLinks s) i noLink .setup)
     → FitLinks l × (viewLinks l ≡ set (viewLinks s) i (markedAt p (getD (viewLinks s) i noLink)))
 marked-is {s} {l} {i} {q} {k} p {x} {y} {b} w f h ek eb ex ey =
     let m : b ≡ (getD (viewLinks s) i noLink .released || samePair p (getD (viewLinks s) i noLink .setup)) = rw (← ex, ← ey) eb in
-    let g = changed-is linkOf (withReleased b) i 79 noLink (subst (λ (v : ℕ). Wrote s (i * 297 + 79) 1 (v ∷ []) l q) ek w) f h (lit≤ tt) (released-keeps b) (released-put b) in
+    let g = changed-is linkOf (withReleased b) i 79 noLink (subst (λ (v : ℕ). Wrote s (i * linkWidth + atReleased) 1 (v ∷ []) l q) ek w) f h (lit≤ tt) (released-keeps b) (released-put b) in
     (g .0, g .1 ∙ ap (λ (d : Bool). set (viewLinks s) i (withReleased d (getD (viewLinks s) i noLink))) m)
 
 -- the paths
-module _ (bs c : Bytes) (k : FitPaths bs) (z : length c ≡ 297) where
+module _ (bs c : Bytes) (k : FitPaths bs) (z : length c ≡ linkWidth) where
   paths-keeps : FitLink c → FitLink (splice c 80 bs)
   paths-keeps f =
       subst FitFields (sym (paths-cuts c bs z (k .size)))
@@ -139,12 +140,12 @@ module _ (bs c : Bytes) (k : FitPaths bs) (z : length c ≡ 297) where
   paths-put = ap linkFrom (paths-cuts c bs z (k .size))
 
 -- they were lent and put back
-pub paths-are : {s ys : Bytes} {i : ℕ} (g : List PathRec → List PathRec) → FitLinks s → i < linkCount s → FitPaths ys → viewPaths ys ≡ g (viewPaths (take (span i) (drop (i * 297 + 80) s)))
-    → FitLinks (take (i * 297 + 80) s ++ (ys ++ drop (span i) (drop (i * 297 + 80) s)))
-    × (viewLinks (take (i * 297 + 80) s ++ (ys ++ drop (span i) (drop (i * 297 + 80) s))) ≡ set (viewLinks s) i (withPaths (g (getD (viewLinks s) i noLink .paths)) (getD (viewLinks s) i noLink)))
+pub paths-are : {s ys : Bytes} {i : ℕ} (g : List PathRec → List PathRec) → FitLinks s → i < linkCount s → FitPaths ys → viewPaths ys ≡ g (viewPaths (take (span i) (drop (i * linkWidth + atPaths) s)))
+    → FitLinks (take (i * linkWidth + atPaths) s ++ (ys ++ drop (span i) (drop (i * linkWidth + atPaths) s)))
+    × (viewLinks (take (i * linkWidth + atPaths) s ++ (ys ++ drop (span i) (drop (i * linkWidth + atPaths) s))) ≡ set (viewLinks s) i (withPaths (g (getD (viewLinks s) i noLink .paths)) (getD (viewLinks s) i noLink)))
 paths-are {s} {ys} {i} g f h y q =
-    let w : Wrote s (i * 297 + 80) 217 ys (take (i * 297 + 80) s ++ (ys ++ drop (span i) (drop (i * 297 + 80) s))) (i * 297 + 80 + 217) =
-    record { end = refl; size = y .size; room = omega arith; is = put-is (i * 297 + 80) (span i) s ys (y .size ∙ sym (span-is i)) } in
+    let w : Wrote s (i * linkWidth + atPaths) pathsLen ys (take (i * linkWidth + atPaths) s ++ (ys ++ drop (span i) (drop (i * linkWidth + atPaths) s))) (i * linkWidth + atPaths + pathsLen) =
+    record { end = refl; size = y .size; room = omega arith; is = put-is (i * linkWidth + atPaths) (span i) s ys (y .size ∙ sym (span-is i)) } in
     let r = changed-is linkOf (withPaths (viewPaths ys)) i 80 noLink w f h (lit≤ tt) (λ c z. paths-keeps ys c y z) (λ c z. paths-put ys c y z) in
     let v : viewPaths ys ≡ g (getD (viewLinks s) i noLink .paths) = q ∙ ap g (paths-show f h) in
     (r .0, r .1 ∙ ap (λ (x : List PathRec). set (viewLinks s) i (withPaths x (getD (viewLinks s) i noLink))) v)
@@ -157,7 +158,7 @@ released-both p i xs h e q =
 
 -- ---- a new link
 abbrev pub newFields : ℕ → pair.Pair → ℕ → List Bytes
-newFields n p k = digits 8 n ∷ pairCell p ∷ (k ∷ []) ∷ (1 ∷ replicate 16 0) ∷ (0 ∷ []) ∷ replicate 217 0 ∷ []
+newFields n p k = digits 8 n ∷ pairCell p ∷ (k ∷ []) ∷ (1 ∷ replicate 16 0) ∷ (0 ∷ []) ∷ replicate pathsLen 0 ∷ []
 
 abbrev pub newBytes : ℕ → pair.Pair → ℕ → Bytes
 newBytes n p k = digits 8 n ++ pairCell p ++ (k ∷ []) ++ (1 ∷ []) ++ replicate 234 0

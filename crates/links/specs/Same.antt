@@ -15,7 +15,9 @@ use Rattle.lib_laws.specs.Fields.{cuts, sum}
 use Rattle.lib_laws.specs.Store.{same-view}
 use Rattle.lib_laws.specs.Same.{cell-size, cell-bytes, cells-same, with-bytes}
 use Rattle.node_addr.specs.Place.{pair-cell-same}
-use Rattle.links_entry.specs.View.{stateOf, pathOf, FitPath, viewPaths, FitPaths, linkWs, dirOf, holderOf, linkOf, FitHolder, FitLink, viewLinks, FitLinks}
+use Rattle.links_entry.specs.View.{stateOf, pathOf, FitPath, viewPaths, FitPaths, dirOf, holderOf, linkOf, FitHolder, FitLink, viewLinks, FitLinks}
+use Rattle.node_addr.specs.Layout.{pairWidth}
+use Rattle.links_entry.specs.Layout.{atPathState, linkWidth, pathWidth, pathsLen, atSetup, linkWs}
 
 -- ---- codes
 state-apart : (x y : ℕ) → x < 3 → y < 3 → stateOf x ≡ stateOf y → x ≡ y
@@ -43,16 +45,16 @@ dir-apart (suc zero) (suc (suc y)) p q e = absurd (omega arith)
 dir-apart (suc (suc x)) y p q e = absurd (omega arith)
 
 -- ---- a path
-path-whole : (c : Bytes) → length c ≡ 54 → c ≡ take 53 c ++ take 1 (drop 53 c)
-path-whole c h = sym (take-append-drop 53 c) ∙ ap (λ (u : Bytes). take 53 c ++ u) (sym (take-all 1 (drop 53 c) (rw length-drop (omega arith))))
+path-whole : (c : Bytes) → length c ≡ pathWidth → c ≡ take pairWidth c ++ take 1 (drop atPathState c)
+path-whole c h = sym (take-append-drop atPathState c) ∙ ap (λ (u : Bytes). take pairWidth c ++ u) (sym (take-all 1 (drop atPathState c) (rw length-drop (omega arith))))
 
-path-apart : (c d : Bytes) → (FitPath c × All IsByte c) × (length c ≡ 54) → (FitPath d × All IsByte d) × (length d ≡ 54) → pathOf c ≡ pathOf d → c ≡ d
+path-apart : (c d : Bytes) → (FitPath c × All IsByte c) × (length c ≡ pathWidth) → (FitPath d × All IsByte d) × (length d ≡ pathWidth) → pathOf c ≡ pathOf d → c ≡ d
 path-apart c d a b e =
-    let p : take 53 c ≡ take 53 d =
-    pair-cell-same (a .0 .0 .pair) (b .0 .0 .pair) (all-take IsByte 53 c (a .0 .1)) (all-take IsByte 53 d (b .0 .1)) (ap (λ (w : PathRec). w .pair) e) in
-    let s : take 1 (drop 53 c) ≡ take 1 (drop 53 d) =
+    let p : take pairWidth c ≡ take pairWidth d =
+    pair-cell-same (a .0 .0 .pair) (b .0 .0 .pair) (all-take IsByte pairWidth c (a .0 .1)) (all-take IsByte pairWidth d (b .0 .1)) (ap (λ (w : PathRec). w .pair) e) in
+    let s : take 1 (drop atPathState c) ≡ take 1 (drop atPathState d) =
     byte-same (a .0 .0 .state) (b .0 .0 .state)
-    (state-apart (byteOf (take 1 (drop 53 c))) (byteOf (take 1 (drop 53 d))) (a .0 .0 .state .low) (b .0 .0 .state .low) (ap (λ (w : PathRec). w .state) e)) in
+    (state-apart (byteOf (take 1 (drop atPathState c))) (byteOf (take 1 (drop atPathState d))) (a .0 .0 .state .low) (b .0 .0 .state .low) (ap (λ (w : PathRec). w .state) e)) in
     path-whole c (a .1) ∙ rw (p, s) (sym (path-whole d (b .1)))
 
 pub paths-same : {s u : Bytes} → FitPaths s → FitPaths u → All IsByte s → All IsByte u → viewPaths s ≡ viewPaths u → s ≡ u
@@ -75,23 +77,23 @@ holder-apart c d f g h k e =
     go false false p q z = (flag-same (f .flag) (g .flag) (p ∙ sym q), cc)
 
 -- ---- a link
-module _ (c d : Bytes) (a : (FitLink c × All IsByte c) × (length c ≡ 297)) (b : (FitLink d × All IsByte d) × (length d ≡ 297)) (e : linkOf c ≡ linkOf d) where
+module _ (c d : Bytes) (a : (FitLink c × All IsByte c) × (length c ≡ linkWidth)) (b : (FitLink d × All IsByte d) × (length d ≡ linkWidth)) (e : linkOf c ≡ linkOf d) where
   fields-same : cuts 0 0 linkWs c ≡ cuts 0 0 linkWs d
   fields-same =
-      let lc : length c ≡ 297 = a .1 in
-      let ld : length d ≡ 297 = b .1 in
+      let lc : length c ≡ linkWidth = a .1 in
+      let ld : length d ≡ linkWidth = b .1 in
       let n : take 8 c ≡ take 8 d = num-same (take 8 c) (take 8 d) (all-take IsByte 8 c (a .0 .1)) (all-take IsByte 8 d (b .0 .1))
       (cell-size 8 0 c (omega arith) ∙ sym (cell-size 8 0 d (omega arith))) (ap (λ (r : LinkRec). r .no) e) in
-      let p : take 53 (drop 8 c) ≡ take 53 (drop 8 d) =
-      pair-cell-same (a .0 .0 .setup) (b .0 .0 .setup) (cell-bytes 53 8 c (a .0 .1)) (cell-bytes 53 8 d (b .0 .1)) (ap (λ (r : LinkRec). r .setup) e) in
+      let p : take pairWidth (drop 8 c) ≡ take pairWidth (drop 8 d) =
+      pair-cell-same (a .0 .0 .setup) (b .0 .0 .setup) (cell-bytes pairWidth atSetup c (a .0 .1)) (cell-bytes pairWidth atSetup d (b .0 .1)) (ap (λ (r : LinkRec). r .setup) e) in
       let q : take 1 (drop 61 c) ≡ take 1 (drop 61 d) =
       byte-same (a .0 .0 .dir) (b .0 .0 .dir)
       (dir-apart (byteOf (take 1 (drop 61 c))) (byteOf (take 1 (drop 61 d))) (a .0 .0 .dir .low) (b .0 .0 .dir .low) (ap (λ (r : LinkRec). r .dir) e)) in
       let h : take 17 (drop 62 c) ≡ take 17 (drop 62 d) =
       holder-apart (take 17 (drop 62 c)) (take 17 (drop 62 d)) (a .0 .0 .holder) (b .0 .0 .holder) (cell-size 17 62 c (omega arith)) (cell-size 17 62 d (omega arith)) (ap (λ (r : LinkRec). r .holder) e) in
       let f : take 1 (drop 79 c) ≡ take 1 (drop 79 d) = flag-same (a .0 .0 .released) (b .0 .0 .released) (ap (λ (r : LinkRec). r .released) e) in
-      let s : take 217 (drop 80 c) ≡ take 217 (drop 80 d) =
-      paths-same (a .0 .0 .paths) (b .0 .0 .paths) (cell-bytes 217 80 c (a .0 .1)) (cell-bytes 217 80 d (b .0 .1)) (ap (λ (r : LinkRec). r .paths) e) in
+      let s : take pathsLen (drop 80 c) ≡ take pathsLen (drop 80 d) =
+      paths-same (a .0 .0 .paths) (b .0 .0 .paths) (cell-bytes pathsLen 80 c (a .0 .1)) (cell-bytes pathsLen 80 d (b .0 .1)) (ap (λ (r : LinkRec). r .paths) e) in
       rw (n, p, q, h, f, s)
 
   link-apart : c ≡ d

@@ -1,9 +1,18 @@
 // Link records changed where they stand.
+use lib_bytes::layout::U64;
 use lib_bytes::write::clear;
 use lib_bytes::write::put_16;
 use lib_bytes::write::put_be;
 use lib_bytes::write::put_byte;
 use lib_region::remove_chunk;
+use links_entry::layout::HOLDER;
+use links_entry::layout::HOLDER_PEER;
+use links_entry::layout::LINK_CAP;
+use links_entry::layout::LINK_COUNT;
+use links_entry::layout::LINK_WIDTH;
+use links_entry::layout::PATHS;
+use links_entry::layout::PATHS_LEN;
+use links_entry::layout::RELEASED;
 use links_entry::paths::drop_paths;
 use links_entry::paths::put_path;
 use links_entry::read::find_link;
@@ -45,14 +54,14 @@ pub fn open_link(s: &mut [u8], n: LinkNo, p: Pair, d: Dir)
     ensures { λ r. ⌜ FitLinks (now (s .exit)) ⌝ }
     ensures { λ r. ⌜ viewLinks (now (s .exit)) ≡ viewLinks (now (s .entry)) ++ (opened (n .0) (viewPair p) (viewDir d) ∷ []) ⌝ }
 {
-    let len = s[9504] as usize;
+    let len = s[LINK_COUNT] as usize;
     let code = dir_code(d);
-    let a = put_be(s, len * 297, n.0, 8);
+    let a = put_be(s, len * LINK_WIDTH, n.0, U64);
     let b = put_pair(s, a, p);
     let c = put_byte(s, b, code);
     let e = put_byte(s, c, 1);
-    clear(s, e, 234);
-    s[9504] = (len + 1) as u8;
+    clear(s, e, LINK_WIDTH - HOLDER_PEER);
+    s[LINK_COUNT] = (len + 1) as u8;
 }
 
 // The link at a place is now held by the peer.
@@ -63,7 +72,7 @@ fn hold_at(s: &mut [u8], i: usize, peer: NodeAddr)
     ensures { λ r. ⌜ viewLinks (now (s .exit)) ≡ set (viewLinks (now (s .entry))) i (heldBy (APeer (peer .0)) (getD (viewLinks (now (s .entry))) i noLink)) ⌝ }
 {
     let bytes = peer.0;
-    let a = put_byte(s, i * 297 + 62, 0);
+    let a = put_byte(s, i * LINK_WIDTH + HOLDER, 0);
     put_16(s, a, bytes);
 }
 
@@ -90,8 +99,8 @@ fn path_at(s: &mut [u8], i: usize, p: Pair, v: Proven)
     ensures { λ r. ⌜ FitLinks (now (s .exit)) ⌝ }
     ensures { λ r. ⌜ viewLinks (now (s .exit)) ≡ set (viewLinks (now (s .entry))) i (withPath (viewPair p) (viewProven v) (getD (viewLinks (now (s .entry))) i noLink)) ⌝ }
 {
-    let from = i * 297 + 80;
-    let end = from + 217;
+    let from = i * LINK_WIDTH + PATHS;
+    let end = from + PATHS_LEN;
     put_path(&mut s[from..end], p, v);
 }
 
@@ -118,7 +127,7 @@ pub(crate) fn remove_link(s: &mut [u8], i: usize)
     ensures { λ r. ⌜ FitLinks (now (s .exit)) ⌝ }
     ensures { λ r. ⌜ viewLinks (now (s .exit)) ≡ erase i (viewLinks (now (s .entry))) ⌝ }
 {
-    remove_chunk(s, 297, 32, i);
+    remove_chunk(s, LINK_WIDTH, LINK_CAP, i);
 }
 
 // The record of link n goes.
@@ -159,7 +168,7 @@ fn mark_at(s: &mut [u8], i: usize, p: Pair)
     let is = setup_is(s, i, p);
     let b = either(was, is);
     let code = one_if(b);
-    put_byte(s, i * 297 + 79, code);
+    put_byte(s, i * LINK_WIDTH + RELEASED, code);
 }
 
 // The paths of the link at a place that are at the pair go.
@@ -170,8 +179,8 @@ fn cut_at(s: &mut [u8], i: usize, p: Pair)
     ensures { λ r. ⌜ FitLinks (now (s .exit)) ⌝ }
     ensures { λ r. ⌜ viewLinks (now (s .exit)) ≡ set (viewLinks (now (s .entry))) i (cutAt (viewPair p) (getD (viewLinks (now (s .entry))) i noLink)) ⌝ }
 {
-    let from = i * 297 + 80;
-    let end = from + 217;
+    let from = i * LINK_WIDTH + PATHS;
+    let end = from + PATHS_LEN;
     drop_paths(&mut s[from..end], p);
 }
 

@@ -19,72 +19,74 @@ use Rattle.lib_laws.specs.Chunk.{chunks}
 use Rattle.lib_laws.specs.Fields.{cuts, cuts-at, field-at, sum}
 use Rattle.lib_laws.specs.Store.{entries-count}
 use Rattle.node_addr.specs.Place.{pairOf, PairCell}
-use Rattle.links_entry.specs.View.{stateOf, pathOf, FitPath, viewPaths, FitPaths, pathCount, linkWs, dirOf, holderOf, linkFrom, linkOf, FitFields, viewLinks, FitLinks, linkCount, noLink, noPath, outward}
+use Rattle.node_addr.specs.Layout.{pairWidth}
+use Rattle.links_entry.specs.Layout.{linkWs, atDir, atHolder, atLinkPathCount, atPathCount, atPathState, atPaths, atReleased, atSetup, linkCap, linkWidth, pathCap, pathWidth, pathsLen}
+use Rattle.links_entry.specs.View.{stateOf, pathOf, FitPath, viewPaths, FitPaths, pathCount, dirOf, holderOf, linkFrom, linkOf, FitFields, viewLinks, FitLinks, linkCount, noLink, noPath, outward}
 use Rattle.links_entry.specs.Asking.{or-true, or-false, and-true, and-false, not-true, not-false, Sifted, sifted-drop, sifted-pass}
 
 module _ {s : Bytes} {i : ℕ} (f : FitLinks s) (h : i < linkCount s) where
-  fields-at : cuts (i * 297) 0 linkWs s ≡ cuts 0 0 linkWs (getD (chunks 297 32 s) i [])
+  fields-at : cuts (i * linkWidth) 0 linkWs s ≡ cuts 0 0 linkWs (getD (chunks linkWidth linkCap s) i [])
   unfolding sum
-  fields-at = cuts-at 297 32 s i [] 0 linkWs (omega arith) (lit≤ tt) (omega arith)
+  fields-at = cuts-at linkWidth linkCap s i [] 0 linkWs (omega arith) (lit≤ tt) (omega arith)
 
-  pub link-here : linkFrom (cuts (i * 297) 0 linkWs s) ≡ getD (viewLinks s) i noLink
+  pub link-here : linkFrom (cuts (i * linkWidth) 0 linkWs s) ≡ getD (viewLinks s) i noLink
   link-here = ap linkFrom fields-at ∙ shown linkOf i [] noLink (f .kept) h
 
-  pub fit-here : FitFields (cuts (i * 297) 0 linkWs s)
+  pub fit-here : FitFields (cuts (i * linkWidth) 0 linkWs s)
   fit-here = subst FitFields (sym fields-at) (fit-at linkOf i [] (f .kept) h)
 
-  pub no-here : num (take 8 (drop (i * 297) s)) ≡ getD (viewLinks s) i noLink .no
-  no-here = ap (λ (b : ℕ). num (take 8 (drop b s))) (sym (add-zero (i * 297))) ∙ ap (λ (r : LinkRec). r .no) link-here
+  pub no-here : num (take 8 (drop (i * linkWidth) s)) ≡ getD (viewLinks s) i noLink .no
+  no-here = ap (λ (b : ℕ). num (take 8 (drop b s))) (sym (add-zero (i * linkWidth))) ∙ ap (λ (r : LinkRec). r .no) link-here
 
-  pub setup-here : pairOf (take 53 (drop (i * 297 + 8) s)) ≡ getD (viewLinks s) i noLink .setup
+  pub setup-here : pairOf (take pairWidth (drop (i * linkWidth + atSetup) s)) ≡ getD (viewLinks s) i noLink .setup
   setup-here = ap (λ (r : LinkRec). r .setup) link-here
 
-  pub dir-here : dirOf (byteOf (take 1 (drop (i * 297 + 61) s))) ≡ getD (viewLinks s) i noLink .dir
+  pub dir-here : dirOf (byteOf (take 1 (drop (i * linkWidth + atDir) s))) ≡ getD (viewLinks s) i noLink .dir
   dir-here = ap (λ (r : LinkRec). r .dir) link-here
 
-  pub released-here : flagOf (take 1 (drop (i * 297 + 79) s)) ≡ getD (viewLinks s) i noLink .released
+  pub released-here : flagOf (take 1 (drop (i * linkWidth + atReleased) s)) ≡ getD (viewLinks s) i noLink .released
   released-here = ap (λ (r : LinkRec). r .released) link-here
 
-  pub holder-here : holderOf (take 17 (drop (i * 297 + 62) s)) ≡ getD (viewLinks s) i noLink .holder
+  pub holder-here : holderOf (take 17 (drop (i * linkWidth + atHolder) s)) ≡ getD (viewLinks s) i noLink .holder
   holder-here = ap (λ (r : LinkRec). r .holder) link-here
 
-  pub paths-here : viewPaths (take 217 (drop (i * 297 + 80) s)) ≡ getD (viewLinks s) i noLink .paths
+  pub paths-here : viewPaths (take pathsLen (drop (i * linkWidth + atPaths) s)) ≡ getD (viewLinks s) i noLink .paths
   paths-here = ap (λ (r : LinkRec). r .paths) link-here
 
-  pub paths-fit : FitPaths (take 217 (drop (i * 297 + 80) s))
+  pub paths-fit : FitPaths (take pathsLen (drop (i * linkWidth + atPaths) s))
   paths-fit = fit-here .paths
 
-  pub link-shown : linkOf (getD (chunks 297 32 s) i []) ≡ getD (viewLinks s) i noLink
+  pub link-shown : linkOf (getD (chunks linkWidth linkCap s) i []) ≡ getD (viewLinks s) i noLink
   link-shown = shown linkOf i [] noLink (f .kept) h
 
   -- the number, of the chunk
-  pub key-here : num (take 8 (drop (i * 297) s)) ≡ linkOf (getD (chunks 297 32 s) i []) .no
+  pub key-here : num (take 8 (drop (i * linkWidth) s)) ≡ linkOf (getD (chunks linkWidth linkCap s) i []) .no
   key-here = no-here ∙ sym (ap (λ (r : LinkRec). r .no) (shown linkOf i [] noLink (f .kept) h))
 
-  pub key-is : {b : ℕ} → b ≡ num (take 8 (drop (i * 297) s)) → b ≡ linkOf (getD (chunks 297 32 s) i []) .no
+  pub key-is : {b : ℕ} → b ≡ num (take 8 (drop (i * linkWidth) s)) → b ≡ linkOf (getD (chunks linkWidth linkCap s) i []) .no
   key-is e = e ∙ key-here
 
 -- ---- a path
 module _ {s : Bytes} {j : ℕ} (f : FitPaths s) (h : j < pathCount s) where
-  path-pair : take 53 (getD (chunks 54 4 s) j []) ≡ take 53 (drop (j * 54) s)
-  path-pair = field-at 54 4 s j [] 0 53 (omega arith) (lit≤ tt) (omega arith) ∙ ap (λ (b : ℕ). take 53 (drop b s)) (add-zero (j * 54))
+  path-pair : take pairWidth (getD (chunks pathWidth pathCap s) j []) ≡ take pairWidth (drop (j * pathWidth) s)
+  path-pair = field-at pathWidth pathCap s j [] 0 pairWidth (omega arith) (lit≤ tt) (omega arith) ∙ ap (λ (b : ℕ). take pairWidth (drop b s)) (add-zero (j * pathWidth))
 
-  path-state : take 1 (drop 53 (getD (chunks 54 4 s) j [])) ≡ take 1 (drop (j * 54 + 53) s)
-  path-state = field-at 54 4 s j [] 53 1 (omega arith) (lit≤ tt) (omega arith)
+  path-state : take 1 (drop atPathState (getD (chunks pathWidth pathCap s) j [])) ≡ take 1 (drop (j * pathWidth + atPathState) s)
+  path-state = field-at pathWidth pathCap s j [] atPathState 1 (omega arith) (lit≤ tt) (omega arith)
 
-  pub pair-here-path : pairOf (take 53 (drop (j * 54) s)) ≡ pathOf (getD (chunks 54 4 s) j []) .pair
+  pub pair-here-path : pairOf (take pairWidth (drop (j * pathWidth) s)) ≡ pathOf (getD (chunks pathWidth pathCap s) j []) .pair
   pair-here-path = ap pairOf (sym path-pair)
 
-  pub state-here : stateOf (byteOf (take 1 (drop (j * 54 + 53) s))) ≡ pathOf (getD (chunks 54 4 s) j []) .state
+  pub state-here : stateOf (byteOf (take 1 (drop (j * pathWidth + atPathState) s))) ≡ pathOf (getD (chunks pathWidth pathCap s) j []) .state
   state-here = ap (λ (b : Bytes). stateOf (byteOf b)) (sym path-state)
 
-  pub path-fit : FitPath (getD (chunks 54 4 s) j [])
+  pub path-fit : FitPath (getD (chunks pathWidth pathCap s) j [])
   path-fit = fit-at pathOf j [] (f .kept) h
 
-  pub pair-fit : PairCell (take 53 (drop (j * 54) s))
+  pub pair-fit : PairCell (take pairWidth (drop (j * pathWidth) s))
   pair-fit = subst PairCell path-pair (path-fit .pair)
 
-  pub state-low : byteOf (take 1 (drop (j * 54 + 53) s)) < 3
+  pub state-low : byteOf (take 1 (drop (j * pathWidth + atPathState) s)) < 3
   state-low = subst (λ (b : Bytes). byteOf b < 3) path-state (path-fit .state .low)
 
 -- ---- as the code reads it
@@ -117,56 +119,56 @@ shows-none f (suc n) (x ∷ ps) h = sym (ne-eqb (suc n) 0 (λ e. omega arith))
 
 -- the length of the paths that the code lends
 abbrev pub span : ℕ → ℕ
-span i = i * 297 + 80 + 217 - (i * 297 + 80)
+span i = i * linkWidth + atPaths + pathsLen - (i * linkWidth + atPaths)
 
-pub span-is : (i : ℕ) → span i ≡ 217
+pub span-is : (i : ℕ) → span i ≡ pathsLen
 span-is i = omega arith
 
 module _ {s : Bytes} {i : ℕ} (f : FitLinks s) (h : i < linkCount s) where
-  pub no-is : {b : ℕ} → b ≡ num (take 8 (drop (i * 297) s)) → b ≡ getD (viewLinks s) i noLink .no
+  pub no-is : {b : ℕ} → b ≡ num (take 8 (drop (i * linkWidth) s)) → b ≡ getD (viewLinks s) i noLink .no
   no-is e = e ∙ no-here f h
 
-  pub setup-cell : PairCell (take 53 (drop (i * 297 + 8) s))
+  pub setup-cell : PairCell (take pairWidth (drop (i * linkWidth + atSetup) s))
   setup-cell = fit-here f h .setup
 
-  pub setup-shows : {x : Pair} → x ≡ pairOf (take 53 (drop (i * 297 + 8) s)) → x ≡ getD (viewLinks s) i noLink .setup
+  pub setup-shows : {x : Pair} → x ≡ pairOf (take pairWidth (drop (i * linkWidth + atSetup) s)) → x ≡ getD (viewLinks s) i noLink .setup
   setup-shows e = e ∙ setup-here f h
 
-  pub setup-same : (x : Pair) {b : Bool} → b ≡ samePair x (pairOf (take 53 (drop (i * 297 + 8) s))) → b ≡ samePair x (getD (viewLinks s) i noLink .setup)
+  pub setup-same : (x : Pair) {b : Bool} → b ≡ samePair x (pairOf (take pairWidth (drop (i * linkWidth + atSetup) s))) → b ≡ samePair x (getD (viewLinks s) i noLink .setup)
   setup-same x e = e ∙ ap (samePair x) (setup-here f h)
 
-  pub outbound-is : {b : ℕ} → b ≡ getD s (i * 297 + 61) 0 → eqb b 1 ≡ outward (getD (viewLinks s) i noLink .dir)
-  outbound-is {b} e = rw (e, byte-here s (i * 297 + 61)) (sym (outward-of (byteOf (take 1 (drop (i * 297 + 61) s)))) ∙ ap outward (dir-here f h))
+  pub outbound-is : {b : ℕ} → b ≡ getD s (i * linkWidth + atDir) 0 → eqb b 1 ≡ outward (getD (viewLinks s) i noLink .dir)
+  outbound-is {b} e = rw (e, byte-here s (i * linkWidth + atDir)) (sym (outward-of (byteOf (take 1 (drop (i * linkWidth + atDir) s)))) ∙ ap outward (dir-here f h))
 
-  pub released-is : {b : ℕ} → b ≡ getD s (i * 297 + 79) 0 → eqb b 1 ≡ getD (viewLinks s) i noLink .released
-  released-is {b} e = rw (e, byte-here s (i * 297 + 79)) (released-here f h)
+  pub released-is : {b : ℕ} → b ≡ getD s (i * linkWidth + atReleased) 0 → eqb b 1 ≡ getD (viewLinks s) i noLink .released
+  released-is {b} e = rw (e, byte-here s (i * linkWidth + atReleased)) (released-here f h)
 
-  pub leg-is : {b : ℕ} → b ≡ getD s (i * 297 + 62) 0 → eqb b 1 ≡ isLeg (getD (viewLinks s) i noLink .holder)
+  pub leg-is : {b : ℕ} → b ≡ getD s (i * linkWidth + atHolder) 0 → eqb b 1 ≡ isLeg (getD (viewLinks s) i noLink .holder)
   leg-is {b} e =
-      let z : take 1 (take 17 (drop (i * 297 + 62) s)) ≡ take 1 (drop (i * 297 + 62) s) = take-take 1 17 (drop (i * 297 + 62) s) (lit≤ tt) in
-      rw (e, byte-here s (i * 297 + 62), ← z) (sym (leg-of (take 17 (drop (i * 297 + 62) s))) ∙ ap isLeg (holder-here f h))
+      let z : take 1 (take 17 (drop (i * linkWidth + atHolder) s)) ≡ take 1 (drop (i * linkWidth + atHolder) s) = take-take 1 17 (drop (i * linkWidth + atHolder) s) (lit≤ tt) in
+      rw (e, byte-here s (i * linkWidth + atHolder), ← z) (sym (leg-of (take 17 (drop (i * linkWidth + atHolder) s))) ∙ ap isLeg (holder-here f h))
 
-  pub count-is : {b : ℕ} → b ≡ getD s (i * 297 + 296) 0 → eqb b 0 ≡ empty (getD (viewLinks s) i noLink .paths)
+  pub count-is : {b : ℕ} → b ≡ getD s (i * linkWidth + atLinkPathCount) 0 → eqb b 0 ≡ empty (getD (viewLinks s) i noLink .paths)
   count-is {b} e =
-      let z : getD (take 217 (drop (i * 297 + 80) s)) 216 0 ≡ getD s (i * 297 + 80 + 216) 0 = byte-in s (i * 297 + 80) 217 216 (lit< tt) in
-      let y : i * 297 + 80 + 216 ≡ i * 297 + 296 = omega arith in
-      let p : FitPaths (take 217 (drop (i * 297 + 80) s)) = paths-fit f h in
+      let z : getD (take pathsLen (drop (i * linkWidth + atPaths) s)) atPathCount 0 ≡ getD s (i * linkWidth + atPaths + atPathCount) 0 = byte-in s (i * linkWidth + atPaths) pathsLen atPathCount (lit< tt) in
+      let y : i * linkWidth + atPaths + atPathCount ≡ i * linkWidth + atLinkPathCount = omega arith in
+      let p : FitPaths (take pathsLen (drop (i * linkWidth + atPaths) s)) = paths-fit f h in
       rw (e, ← y, ← z)
-      (sym (shows-none pathOf (pathCount (take 217 (drop (i * 297 + 80) s))) (chunks 54 4 (take 217 (drop (i * 297 + 80) s))) (omega (arith, p .kept .small, p .kept .size))) ∙ ap empty (paths-here f h))
+      (sym (shows-none pathOf (pathCount (take pathsLen (drop (i * linkWidth + atPaths) s))) (chunks pathWidth pathCap (take pathsLen (drop (i * linkWidth + atPaths) s))) (omega (arith, p .kept .small, p .kept .size))) ∙ ap empty (paths-here f h))
 
   -- the paths, lent
-  pub paths-lent : FitPaths (take (span i) (drop (i * 297 + 80) s))
+  pub paths-lent : FitPaths (take (span i) (drop (i * linkWidth + atPaths) s))
   paths-lent = rw (span-is i) (paths-fit f h)
 
-  pub paths-show : viewPaths (take (span i) (drop (i * 297 + 80) s)) ≡ getD (viewLinks s) i noLink .paths
-  paths-show = ap (λ (k : ℕ). viewPaths (take k (drop (i * 297 + 80) s))) (span-is i) ∙ paths-here f h
+  pub paths-show : viewPaths (take (span i) (drop (i * linkWidth + atPaths) s)) ≡ getD (viewLinks s) i noLink .paths
+  paths-show = ap (λ (k : ℕ). viewPaths (take k (drop (i * linkWidth + atPaths) s))) (span-is i) ∙ paths-here f h
 
 -- whether a link's setup is in use
-module _ {s : Bytes} {i : ℕ} (f : FitLinks s) (h : i < linkCount s) {b : ℕ} (e : b ≡ getD s (i * 297 + 296) 0) where
+module _ {s : Bytes} {i : ℕ} (f : FitLinks s) (h : i < linkCount s) {b : ℕ} (e : b ≡ getD s (i * linkWidth + atLinkPathCount) 0) where
   pub waits-yes : b ≡ 0 → true ≡ (empty (getD (viewLinks s) i noLink .paths) || isLeg (getD (viewLinks s) i noLink .holder))
   waits-yes z = rw (← count-is f h e, eq-eqb b 0 z)
 
-  pub waits-is : {l : ℕ} → (b ≡ 0 → ⊥) → l ≡ getD s (i * 297 + 62) 0 → eqb l 1 ≡ (empty (getD (viewLinks s) i noLink .paths) || isLeg (getD (viewLinks s) i noLink .holder))
+  pub waits-is : {l : ℕ} → (b ≡ 0 → ⊥) → l ≡ getD s (i * linkWidth + atHolder) 0 → eqb l 1 ≡ (empty (getD (viewLinks s) i noLink .paths) || isLeg (getD (viewLinks s) i noLink .holder))
   waits-is z g = rw (← count-is f h e, ne-eqb b 0 z) (leg-is f h g)
 
 pub ruleset reading = (needs, no-is, setup-cell, setup-shows, setup-same, outbound-is, released-is, waits-yes, waits-is)
@@ -208,34 +210,34 @@ counts-other (suc (suc zero)) p d = absurd (d refl)
 counts-other (suc (suc (suc b))) p d = absurd (omega arith)
 
 module _ {s : Bytes} {j : ℕ} (f : FitPaths s) (h : j < pathCount s) where
-  pub path-cell : PairCell (take 53 (drop (j * 54) s))
+  pub path-cell : PairCell (take pairWidth (drop (j * pathWidth) s))
   path-cell = pair-fit f h
 
-  pub path-same : (x : Pair) {b : Bool} → b ≡ samePair x (pairOf (take 53 (drop (j * 54) s))) → b ≡ pathAt x (pathOf (getD (chunks 54 4 s) j []))
+  pub path-same : (x : Pair) {b : Bool} → b ≡ samePair x (pairOf (take pairWidth (drop (j * pathWidth) s))) → b ≡ pathAt x (pathOf (getD (chunks pathWidth pathCap s) j []))
   path-same x e = e ∙ ap (samePair x) (pair-here-path f h)
 
-  state-at : {v : ℕ} → v ≡ getD s (j * 54 + 53) 0 → stateOf v ≡ pathOf (getD (chunks 54 4 s) j []) .state
-  state-at {v} e = ap stateOf (e ∙ byte-here s (j * 54 + 53)) ∙ state-here f h
+  state-at : {v : ℕ} → v ≡ getD s (j * pathWidth + atPathState) 0 → stateOf v ≡ pathOf (getD (chunks pathWidth pathCap s) j []) .state
+  state-at {v} e = ap stateOf (e ∙ byte-here s (j * pathWidth + atPathState)) ∙ state-here f h
 
-  pub probing-path : (x : Pair) {v : ℕ} → v ≡ getD s (j * 54 + 53) 0 → v ≡ 2 → false ≡ provenAt x (pathOf (getD (chunks 54 4 s) j []))
-  probing-path x {v} e z = sym (rw (← state-at e, counts-two v z) (and-false (samePair x (pathOf (getD (chunks 54 4 s) j []) .pair))))
+  pub probing-path : (x : Pair) {v : ℕ} → v ≡ getD s (j * pathWidth + atPathState) 0 → v ≡ 2 → false ≡ provenAt x (pathOf (getD (chunks pathWidth pathCap s) j []))
+  probing-path x {v} e z = sym (rw (← state-at e, counts-two v z) (and-false (samePair x (pathOf (getD (chunks pathWidth pathCap s) j []) .pair))))
 
-  pub counting-path : (x : Pair) {v : ℕ} {b : Bool} → v ≡ getD s (j * 54 + 53) 0 → (v ≡ 2 → ⊥) → b ≡ samePair x (pairOf (take 53 (drop (j * 54) s)))
-      → b ≡ provenAt x (pathOf (getD (chunks 54 4 s) j []))
+  pub counting-path : (x : Pair) {v : ℕ} {b : Bool} → v ≡ getD s (j * pathWidth + atPathState) 0 → (v ≡ 2 → ⊥) → b ≡ samePair x (pairOf (take pairWidth (drop (j * pathWidth) s)))
+      → b ≡ provenAt x (pathOf (getD (chunks pathWidth pathCap s) j []))
   counting-path x {v} e d q =
-      let l : v < 3 = rw (e ∙ byte-here s (j * 54 + 53)) (state-low f h) in
-      path-same x q ∙ sym (rw (← state-at e, counts-other v l d) (and-true (samePair x (pathOf (getD (chunks 54 4 s) j []) .pair))))
+      let l : v < 3 = rw (e ∙ byte-here s (j * pathWidth + atPathState)) (state-low f h) in
+      path-same x q ∙ sym (rw (← state-at e, counts-other v l d) (and-true (samePair x (pathOf (getD (chunks pathWidth pathCap s) j []) .pair))))
 
-  pub path-loaded : {x : Pair} {v : ℕ} {u : Proven} → x ≡ pairOf (take 53 (drop (j * 54) s)) → v ≡ getD s (j * 54 + 53) 0 → u ≡ stateOf v
-      → record { pair = x; state = u } ≡ pathOf (getD (chunks 54 4 s) j [])
+  pub path-loaded : {x : Pair} {v : ℕ} {u : Proven} → x ≡ pairOf (take pairWidth (drop (j * pathWidth) s)) → v ≡ getD s (j * pathWidth + atPathState) 0 → u ≡ stateOf v
+      → record { pair = x; state = u } ≡ pathOf (getD (chunks pathWidth pathCap s) j [])
   path-loaded e g q = rw (e ∙ pair-here-path f h, q ∙ state-at g)
 
   -- of what is shown
-  pub path-shown : pathOf (getD (chunks 54 4 s) j []) ≡ getD (viewPaths s) j noPath
+  pub path-shown : pathOf (getD (chunks pathWidth pathCap s) j []) ≡ getD (viewPaths s) j noPath
   path-shown = shown pathOf j [] noPath (f .kept) h
 
 -- one turn of the loop that drops the paths at a pair
-module _ {s : Bytes} {j : ℕ} (f : FitPaths s) (h : j < pathCount s) (x : Pair) {b : Bool} (e : b ≡ samePair x (pairOf (take 53 (drop (j * 54) s)))) where
+module _ {s : Bytes} {j : ℕ} (f : FitPaths s) (h : j < pathCount s) (x : Pair) {b : Bool} (e : b ≡ samePair x (pairOf (take pairWidth (drop (j * pathWidth) s)))) where
   same-shown : b ≡ pathAt x (getD (viewPaths s) j noPath)
   same-shown = path-same f h x e ∙ ap (pathAt x) (path-shown f h)
 

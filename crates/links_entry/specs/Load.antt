@@ -14,7 +14,9 @@ use Rattle.lib_laws.specs.Cell.{num}
 use Rattle.lib_laws.specs.Fields.{cuts}
 use Rattle.node_addr.specs.View.{viewPair, FitPair}
 use Rattle.node_addr.specs.Place.{pairOf}
-use Rattle.links_entry.specs.View.{dirOf, holderOf, linkFrom, linkWs, viewPaths, pathCount, viewLinks, FitLinks, linkCount, noLink, viewDir, viewPath, FitPathRec, blankPath, viewLink, FitRec}
+use Rattle.node_addr.specs.Layout.{pairWidth}
+use Rattle.links_entry.specs.Layout.{linkWs, atDir, atLinkPathCount, atPathCount, atPaths, atReleased, linkWidth, pathsLen}
+use Rattle.links_entry.specs.View.{dirOf, holderOf, linkFrom, viewPaths, pathCount, viewLinks, FitLinks, linkCount, noLink, viewDir, viewPath, FitPathRec, blankPath, viewLink, FitRec}
 use Rattle.links_entry.specs.Here.{link-here, byte-here, byte-in}
 use Rattle.links_entry.specs.declared.record.LinkRec as linkrec
 
@@ -22,13 +24,13 @@ use Rattle.links_entry.specs.declared.record.LinkRec as linkrec
 pub record Loaded (r : linkrec.LinkRec) (a k : ℕ) (s : Bytes) : Type 0 where
   pub no : r .no .0 ≡ num (take 8 (drop a s))
   pub fit : FitPair (r .setup)
-  pub setup : viewPair (r .setup) ≡ pairOf (take 53 (drop (a + 8) s))
+  pub setup : viewPair (r .setup) ≡ pairOf (take pairWidth (drop (a + 8) s))
   pub dir : viewDir (r .dir) ≡ dirOf (getD s (a + 61) 0)
   pub leg : r .leg ≡ eqb (getD s (a + 62) 0) 1
   pub peer : r .peer .0 ≡ take 16 (drop (a + 63) s)
   pub released : r .released ≡ eqb (getD s (a + 79) 0) 1
   pub count : r .count ≡ getD s (a + 296) 0
-  pub size : k ≡ 217
+  pub size : k ≡ pathsLen
   pub kept : Kept FitPathRec blankPath 4 (pathCount (take k (drop (a + 80) s))) (r .paths)
   pub paths : map viewPath (take (pathCount (take k (drop (a + 80) s))) (r .paths)) ≡ viewPaths (take k (drop (a + 80) s))
 
@@ -48,19 +50,19 @@ holder-loaded a s =
     ap (λ (u : Bytes). take 16 u) (drop-taken 0 16 (drop (a + 62) s)) ∙ take-take 16 16 (drop 1 (drop (a + 62) s)) (lit≤ tt) ∙ rw (drop-drop 1 (a + 62) s, y) in
     rw (x, z, byte-here s (a + 62))
 
-pub link-loaded : {s : Bytes} {i k : ℕ} (r : linkrec.LinkRec) → FitLinks s → i < linkCount s → Loaded r (i * 297) k s → FitRec r × (viewLink r ≡ getD (viewLinks s) i noLink)
+pub link-loaded : {s : Bytes} {i k : ℕ} (r : linkrec.LinkRec) → FitLinks s → i < linkCount s → Loaded r (i * linkWidth) k s → FitRec r × (viewLink r ≡ getD (viewLinks s) i noLink)
 link-loaded {s} {i} {k} r f h l =
-    let y : i * 297 + 80 + 216 ≡ i * 297 + 296 = omega arith in
-    let c : pathCount (take 217 (drop (i * 297 + 80) s)) ≡ getD s (i * 297 + 296) 0 = byte-in s (i * 297 + 80) 217 216 (lit< tt) ∙ ap (λ (n : ℕ). getD s n 0) y in
-    let n : pathCount (take k (drop (i * 297 + 80) s)) ≡ r .count = (ap (λ (m : ℕ). pathCount (take m (drop (i * 297 + 80) s))) (l .size)) ∙ c ∙ sym (l .count) in
-    let v : map viewPath (take (r .count) (r .paths)) ≡ viewPaths (take 217 (drop (i * 297 + 80) s)) =
-    ap (λ (m : ℕ). map viewPath (take m (r .paths))) (sym n) ∙ l .paths ∙ ap (λ (m : ℕ). viewPaths (take m (drop (i * 297 + 80) s))) (l .size) in
-    let z : i * 297 + 0 ≡ i * 297 = add-zero (i * 297) in
-    let w : viewLink r ≡ linkFrom (cuts (i * 297) 0 linkWs s) =
-    rw (l .no, l .setup, l .dir, l .leg, l .peer, l .released, v, z, holder-loaded (i * 297) s, ← byte-here s (i * 297 + 61), ← byte-here s (i * 297 + 79)) in (
+    let y : i * linkWidth + atPaths + atPathCount ≡ i * linkWidth + atLinkPathCount = omega arith in
+    let c : pathCount (take pathsLen (drop (i * linkWidth + atPaths) s)) ≡ getD s (i * linkWidth + atLinkPathCount) 0 = byte-in s (i * linkWidth + atPaths) pathsLen atPathCount (lit< tt) ∙ ap (λ (n : ℕ). getD s n 0) y in
+    let n : pathCount (take k (drop (i * linkWidth + atPaths) s)) ≡ r .count = (ap (λ (m : ℕ). pathCount (take m (drop (i * linkWidth + atPaths) s))) (l .size)) ∙ c ∙ sym (l .count) in
+    let v : map viewPath (take (r .count) (r .paths)) ≡ viewPaths (take pathsLen (drop (i * linkWidth + atPaths) s)) =
+    ap (λ (m : ℕ). map viewPath (take m (r .paths))) (sym n) ∙ l .paths ∙ ap (λ (m : ℕ). viewPaths (take m (drop (i * linkWidth + atPaths) s))) (l .size) in
+    let z : i * linkWidth + 0 ≡ i * linkWidth = add-zero (i * linkWidth) in
+    let w : viewLink r ≡ linkFrom (cuts (i * linkWidth) 0 linkWs s) =
+    rw (l .no, l .setup, l .dir, l .leg, l .peer, l .released, v, z, holder-loaded (i * linkWidth) s, ← byte-here s (i * linkWidth + atDir), ← byte-here s (i * linkWidth + atReleased)) in (
       record {
         setup = l .fit;
-        peer = rw (l .peer) (length-take-le 16 (drop (i * 297 + 63) s) (rw length-drop (omega arith)));
+        peer = rw (l .peer) (length-take-le 16 (drop (i * linkWidth + 63) s) (rw length-drop (omega arith)));
         paths = rw n at (l .kept);
       },
       w ∙ link-here f h,

@@ -24,6 +24,8 @@ use Rattle.lib_laws.specs.Store.{changed-is, entries-count}
 use Rattle.node_addr.specs.View.{viewPair, FitPair}
 use Rattle.node_addr.specs.Place.{pairCell, pair-cell-length, pair-cell-fit, pair-cell-shows}
 use Rattle.node_addr.specs.declared.Pair as pair
+use Rattle.node_addr.specs.Layout.{pairWidth}
+use Rattle.links_entry.specs.Layout.{atPathState, pathWidth}
 use Rattle.links_entry.specs.View.{stateOf, pathOf, FitPath, viewPaths, FitPaths, pathCount, noPath, newPath, inState, full, crowding, noLink}
 use Rattle.links_entry.specs.Asking.{and-false}
 
@@ -39,31 +41,31 @@ state-code Acked = record { size = refl; low = lit< tt }
 state-code Probing = record { size = refl; low = lit< tt }
 
 -- ---- a path's state
-module _ (v : Proven) (c : Bytes) (z : length c ≡ 54) where
-  front : take 53 (splice c 53 (stateCode v ∷ [])) ≡ take 53 c
-  front = part-before 0 53 c 53 (stateCode v ∷ []) (lit≤ tt) (omega arith)
+module _ (v : Proven) (c : Bytes) (z : length c ≡ pathWidth) where
+  front : take pairWidth (splice c atPathState (stateCode v ∷ [])) ≡ take pairWidth c
+  front = part-before 0 pairWidth c atPathState (stateCode v ∷ []) (lit≤ tt) (omega arith)
 
-  back : take 1 (drop 53 (splice c 53 (stateCode v ∷ []))) ≡ stateCode v ∷ []
-  back = part-same 1 c 53 (stateCode v ∷ []) (omega arith) refl
+  back : take 1 (drop atPathState (splice c atPathState (stateCode v ∷ []))) ≡ stateCode v ∷ []
+  back = part-same 1 c atPathState (stateCode v ∷ []) (omega arith) refl
 
-  state-keeps : FitPath c → FitPath (splice c 53 (stateCode v ∷ []))
+  state-keeps : FitPath c → FitPath (splice c atPathState (stateCode v ∷ []))
   state-keeps f = record { pair = rw front (f .pair); state = rw back (state-code v) }
 
-  state-put : pathOf (splice c 53 (stateCode v ∷ [])) ≡ inState v (pathOf c)
+  state-put : pathOf (splice c atPathState (stateCode v ∷ [])) ≡ inState v (pathOf c)
   state-put = rw (front, back, state-shows v)
 
-pub set-state-is : {s l : Bytes} {j q k : ℕ} (v : Proven) → k ≡ stateCode v → Wrote s (j * 54 + 53) 1 (k ∷ []) l q → FitPaths s → j < pathCount s
+pub set-state-is : {s l : Bytes} {j q k : ℕ} (v : Proven) → k ≡ stateCode v → Wrote s (j * pathWidth + atPathState) 1 (k ∷ []) l q → FitPaths s → j < pathCount s
     → FitPaths l × (viewPaths l ≡ set (viewPaths s) j (inState v (getD (viewPaths s) j noPath)))
 set-state-is {s} {l} {j} {q} {k} v e w f h =
-    changed-is pathOf (inState v) j 53 noPath (subst (λ (b : ℕ). Wrote s (j * 54 + 53) 1 (b ∷ []) l q) e w) f h (lit≤ tt) (state-keeps v) (state-put v)
+    changed-is pathOf (inState v) j atPathState noPath (subst (λ (b : ℕ). Wrote s (j * pathWidth + atPathState) 1 (b ∷ []) l q) e w) f h (lit≤ tt) (state-keeps v) (state-put v)
 
 -- ---- a new path
 module _ {p : pair.Pair} (v : Proven) (f : FitPair p) where
-  new-front : take 53 (pairCell p ++ (stateCode v ∷ [])) ≡ pairCell p
-  new-front = take-at (pairCell p) (stateCode v ∷ []) 53 (pair-cell-length f)
+  new-front : take pairWidth (pairCell p ++ (stateCode v ∷ [])) ≡ pairCell p
+  new-front = take-at (pairCell p) (stateCode v ∷ []) atPathState (pair-cell-length f)
 
-  new-back : take 1 (drop 53 (pairCell p ++ (stateCode v ∷ []))) ≡ stateCode v ∷ []
-  new-back = rw (drop-at (pairCell p) (stateCode v ∷ []) 53 (pair-cell-length f))
+  new-back : take 1 (drop atPathState (pairCell p ++ (stateCode v ∷ []))) ≡ stateCode v ∷ []
+  new-back = rw (drop-at (pairCell p) (stateCode v ∷ []) atPathState (pair-cell-length f))
 
   pub new-fit : FitPath (pairCell p ++ (stateCode v ∷ []))
   new-fit = record { pair = rw new-front (pair-cell-fit f); state = rw new-back (state-code v) }

@@ -14,6 +14,8 @@ use Rattle.lib_laws.specs.Fields.{cuts}
 use Rattle.lib_laws.specs.Store.{Store, entries}
 use Rattle.node_addr.specs.Place.{pairOf, PairCell}
 use Rattle.node_addr.specs.View.{viewPair, FitPair, blankPair}
+use Rattle.node_addr.specs.Layout.{pairWidth}
+use Rattle.links_entry.specs.Layout.{linkWs, atLinkCount, atPathCount, atPathState, linkCap, linkWidth, pathCap, pathWidth}
 use Rattle.links_entry.specs.declared.record.Dir as dirs
 use Rattle.links_entry.specs.declared.record.Dir.the-variants as dirv
 use Rattle.links_entry.specs.declared.record.Proven as provens
@@ -26,21 +28,21 @@ abbrev pub stateOf : ℕ → Proven
 stateOf b = if eqb b 0 then Live else (if eqb b 1 then Acked else Probing)
 
 abbrev pub pathOf : Bytes → PathRec
-pathOf c = record { pair = pairOf (take 53 c); state = stateOf (byteOf (take 1 (drop 53 c))) }
+pathOf c = record { pair = pairOf (take pairWidth c); state = stateOf (byteOf (take 1 (drop atPathState c))) }
 
 pub record FitPath (c : Bytes) : Type 0 where
-  pub pair : PairCell (take 53 c)
-  pub state : Code 3 (take 1 (drop 53 c))
+  pub pair : PairCell (take pairWidth c)
+  pub state : Code 3 (take 1 (drop atPathState c))
 
 -- the paths of a link: 4 of 54 bytes, and their count
 abbrev pub viewPaths : Bytes → List PathRec
-viewPaths s = entries pathOf 54 4 s
+viewPaths s = entries pathOf pathWidth pathCap s
 
 abbrev pub FitPaths : Bytes → Type 0
-FitPaths s = Store FitPath 54 4 s
+FitPaths s = Store FitPath pathWidth pathCap s
 
 abbrev pub pathCount : Bytes → ℕ
-pathCount s = getD s 216 0
+pathCount s = getD s atPathCount 0
 
 abbrev pub noPath : PathRec
 noPath = record { pair = record { transport = 0; addr = [] }; state = Live }
@@ -52,9 +54,6 @@ abbrev pub inState : Proven → PathRec → PathRec
 inState v w = record { pair = w .pair; state = v }
 
 -- ---- a link in memory: no 8, setup 53, dir 1 (0 Inbound, 1 Outbound), holder 17 (1 and zeros: a leg; 0 and the peer), released 1, paths 217
-abbrev pub linkWs : List ℕ
-linkWs = 8 ∷ 53 ∷ 1 ∷ 17 ∷ 1 ∷ 217 ∷ []
-
 abbrev pub dirOf : ℕ → Dir
 dirOf b = if eqb b 1 then Outbound else Inbound
 
@@ -90,13 +89,13 @@ abbrev pub FitLink : Bytes → Type 0
 FitLink c = FitFields (cuts 0 0 linkWs c)
 
 abbrev pub viewLinks : Bytes → List LinkRec
-viewLinks s = entries linkOf 297 32 s
+viewLinks s = entries linkOf linkWidth linkCap s
 
 abbrev pub FitLinks : Bytes → Type 0
-FitLinks s = Store FitLink 297 32 s
+FitLinks s = Store FitLink linkWidth linkCap s
 
 abbrev pub linkCount : Bytes → ℕ
-linkCount s = getD s 9504 0
+linkCount s = getD s atLinkCount 0
 
 -- what stands at no place
 abbrev pub noLink : LinkRec

@@ -1,4 +1,5 @@
 // A link: by value, and in its entry of 297 bytes in lent memory, read; and its paths there.
+pub mod layout;
 pub mod paths;
 pub mod read;
 pub mod record;

@@ -1,4 +1,10 @@
 // A link's paths in lent memory: 4 of 54 bytes in the order they came, and their count.
+use crate::layout::PATH_CAP;
+use crate::layout::PATH_COUNT;
+use crate::layout::PATH_STATE;
+use crate::layout::PATH_WIDTH;
+use crate::layout::PATHS_FULL;
+use crate::layout::PROBING;
 use crate::record::Path;
 use crate::record::Proven;
 use lib_bytes::read::get_byte;
@@ -24,6 +30,7 @@ ghost use Rattle.lib_laws.specs.Chunk.{chunks};
 ghost use Rattle.node_addr.specs.View.{FitPair, viewPair, Finds};
 ghost use Rattle.links_entry.specs.Asking.{Sifted};
 ghost use Rattle.links_entry.specs.View.{stateOf, viewProven, FitPaths, viewPaths, pathCount, pathOf, noPath, newPath, inState, full, viewPath, FitPathRec, blankPath};
+ghost use Rattle.links_entry.specs.Layout.{pathCap, pathWidth};
 
 pub(crate) fn state_code(v: Proven) -> u8
     ensures { λ r. ⌜ r ≡ stateCode (viewProven v) ⌝ }
@@ -40,10 +47,10 @@ fn proven_path(s: &[u8], j: usize, p: Pair) -> bool
     requires { ⌜ FitPaths (now s) ⌝ }
     requires { ⌜ j < pathCount (now s) ⌝ }
     requires { ⌜ FitPair p ⌝ }
-    ensures { λ r. ⌜ r ≡ provenAt (viewPair p) (pathOf (getD (chunks 54 4 (now (s .entry))) j [])) ⌝ }
+    ensures { λ r. ⌜ r ≡ provenAt (viewPair p) (pathOf (getD (chunks pathWidth pathCap (now (s .entry))) j [])) ⌝ }
 {
-    let at = j * 54;
-    if get_byte(s, at + 53) == 2 {
+    let at = j * PATH_WIDTH;
+    if get_byte(s, at + PATH_STATE) == PROBING {
         return false;
     }
     pair_here(s, at, p)
@@ -55,7 +62,7 @@ pub(crate) fn proves(s: &[u8], p: Pair) -> bool
     requires { ⌜ FitPair p ⌝ }
     ensures { λ r. ⌜ r ≡ any (provenAt (viewPair p)) (viewPaths (now (s .entry))) ⌝ }
 {
-    let n = s[216] as usize;
+    let n = s[PATH_COUNT] as usize;
     let mut j = 0;
     while j < n {
         if proven_path(s, j, p) {
@@ -72,10 +79,10 @@ pub(crate) fn find_path(s: &[u8], p: Pair) -> Found
     requires { ⌜ FitPair p ⌝ }
     ensures { λ r. ⌜ Finds r (scan (pathAt (viewPair p)) 0 (viewPaths (now (s .entry)))) ⌝ }
 {
-    let n = s[216] as usize;
+    let n = s[PATH_COUNT] as usize;
     let mut j = 0;
     while j < n {
-        if pair_here(s, j * 54, p) {
+        if pair_here(s, j * PATH_WIDTH, p) {
             return Found::At(j);
         }
         j += 1;
@@ -89,7 +96,7 @@ pub(crate) fn full_for(s: &[u8], p: Pair) -> bool
     requires { ⌜ FitPair p ⌝ }
     ensures { λ r. ⌜ r ≡ full (viewPair p) (viewPaths (now (s .entry))) ⌝ }
 {
-    if s[216] < 4 {
+    if s[PATH_COUNT] < PATHS_FULL {
         return false;
     }
     match find_path(s, p) {
@@ -106,7 +113,7 @@ fn set_state(s: &mut [u8], j: usize, v: Proven)
     ensures { λ r. ⌜ viewPaths (now (s .exit)) ≡ set (viewPaths (now (s .entry))) j (inState (viewProven v) (getD (viewPaths (now (s .entry))) j noPath)) ⌝ }
 {
     let b = state_code(v);
-    put_byte(s, j * 54 + 53, b);
+    put_byte(s, j * PATH_WIDTH + PATH_STATE, b);
 }
 
 // One more path.
@@ -117,11 +124,11 @@ fn push_path(s: &mut [u8], p: Pair, v: Proven)
     ensures { λ r. ⌜ FitPaths (now (s .exit)) ⌝ }
     ensures { λ r. ⌜ viewPaths (now (s .exit)) ≡ viewPaths (now (s .entry)) ++ (newPath (viewPair p) (viewProven v) ∷ []) ⌝ }
 {
-    let n = s[216] as usize;
+    let n = s[PATH_COUNT] as usize;
     let b = state_code(v);
-    let a = put_pair(s, n * 54, p);
+    let a = put_pair(s, n * PATH_WIDTH, p);
     put_byte(s, a, b);
-    s[216] = (n + 1) as u8;
+    s[PATH_COUNT] = (n + 1) as u8;
 }
 
 // A path at the pair is in state v: changed, or new.
@@ -149,7 +156,7 @@ fn remove_path(s: &mut [u8], j: usize)
     ensures { λ r. ⌜ FitPaths (now (s .exit)) ⌝ }
     ensures { λ r. ⌜ viewPaths (now (s .exit)) ≡ erase j (viewPaths (now (s .entry))) ⌝ }
 {
-    remove_chunk(s, 54, 4, j);
+    remove_chunk(s, PATH_WIDTH, PATH_CAP, j);
 }
 
 // Removes the path at j if it is at the pair; the place to go on from.
@@ -160,7 +167,7 @@ fn sift(s: &mut [u8], j: usize, p: Pair) -> usize
     ensures { λ r. ⌜ FitPaths (now (s .exit)) ⌝ }
     ensures { λ r. ⌜ Sifted (λ w. not (pathAt (viewPair p) w)) (viewPaths (now (s .entry))) j (viewPaths (now (s .exit))) r ⌝ }
 {
-    if pair_here(s, j * 54, p) {
+    if pair_here(s, j * PATH_WIDTH, p) {
         remove_path(s, j);
         return j;
     }
@@ -175,7 +182,7 @@ pub fn drop_paths(s: &mut [u8], p: Pair)
     ensures { λ r. ⌜ viewPaths (now (s .exit)) ≡ keep (λ w. not (pathAt (viewPair p) w)) (viewPaths (now (s .entry))) ⌝ }
 {
     let mut j = 0;
-    while j < s[216] as usize {
+    while j < s[PATH_COUNT] as usize {
         j = sift(s, j, p);
     }
 }
@@ -185,11 +192,11 @@ fn load_path(s: &[u8], j: usize) -> Path
     requires { ⌜ FitPaths (now s) ⌝ }
     requires { ⌜ j < pathCount (now s) ⌝ }
     ensures { λ r. ⌜ FitPathRec r ⌝ }
-    ensures { λ r. ⌜ viewPath r ≡ pathOf (getD (chunks 54 4 (now (s .entry))) j []) ⌝ }
+    ensures { λ r. ⌜ viewPath r ≡ pathOf (getD (chunks pathWidth pathCap (now (s .entry))) j []) ⌝ }
 {
-    let at = j * 54;
+    let at = j * PATH_WIDTH;
     let p = load_pair(s, at);
-    let b = get_byte(s, at + 53);
+    let b = get_byte(s, at + PATH_STATE);
     let v = state_of(b);
     Path { pair: p, state: v }
 }
@@ -220,9 +227,9 @@ pub(crate) fn load_paths(s: &[u8]) -> [Path; 4]
     ensures { λ r. ⌜ Kept FitPathRec blankPath 4 (pathCount (now (s .entry))) r ⌝ }
     ensures { λ r. ⌜ map viewPath (take (pathCount (now (s .entry))) r) ≡ viewPaths (now (s .entry)) ⌝ }
 {
-    let n = s[216] as usize;
+    let n = s[PATH_COUNT] as usize;
     let b = blank_path();
-    let mut out = [b; 4];
+    let mut out = [b; PATH_CAP];
     let mut j = 0;
     while j < n {
         let w = load_path(s, j);

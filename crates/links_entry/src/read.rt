@@ -1,9 +1,20 @@
 // Link records read where they stand.
+use crate::layout::DIR;
+use crate::layout::HOLDER;
+use crate::layout::HOLDER_PEER;
+use crate::layout::LINK_COUNT;
+use crate::layout::LINK_PATH_COUNT;
+use crate::layout::LINK_WIDTH;
+use crate::layout::PATHS;
+use crate::layout::PATHS_LEN;
+use crate::layout::RELEASED;
+use crate::layout::SETUP;
 use crate::paths::full_for;
 use crate::paths::load_paths;
 use crate::paths::proves;
 use crate::record::Dir;
 use crate::record::LinkRec;
+use lib_bytes::layout::U64;
 use lib_bytes::read::get_be;
 use lib_bytes::read::get_byte;
 use lib_bytes::read::take_16;
@@ -31,7 +42,7 @@ pub fn link_count(s: &[u8]) -> usize
     requires { ⌜ FitLinks (now s) ⌝ }
     ensures { λ r. ⌜ r ≡ length (viewLinks (now (s .entry))) ⌝ }
 {
-    s[9504] as usize
+    s[LINK_COUNT] as usize
 }
 
 // The number of the link at a place.
@@ -40,7 +51,7 @@ pub fn no_at(s: &[u8], i: usize) -> LinkNo
     requires { ⌜ i < linkCount (now s) ⌝ }
     ensures { λ r. ⌜ r .0 ≡ getD (viewLinks (now (s .entry))) i noLink .no ⌝ }
 {
-    let n = get_be(s, i * 297, 8);
+    let n = get_be(s, i * LINK_WIDTH, U64);
     LinkNo(n)
 }
 
@@ -50,10 +61,10 @@ pub fn find_link(s: &[u8], n: LinkNo) -> Found
     ensures { λ r. ⌜ Finds r (scan (numbered (n .0)) 0 (viewLinks (now (s .entry)))) ⌝ }
 {
     let key = n.0;
-    let len = s[9504] as usize;
+    let len = s[LINK_COUNT] as usize;
     let mut i = 0;
     while i < len {
-        if key == get_be(s, i * 297, 8) {
+        if key == get_be(s, i * LINK_WIDTH, U64) {
             return Found::At(i);
         }
         i += 1;
@@ -68,7 +79,7 @@ pub fn setup_at(s: &[u8], i: usize) -> Pair
     ensures { λ r. ⌜ FitPair r ⌝ }
     ensures { λ r. ⌜ viewPair r ≡ getD (viewLinks (now (s .entry))) i noLink .setup ⌝ }
 {
-    load_pair(s, i * 297 + 8)
+    load_pair(s, i * LINK_WIDTH + SETUP)
 }
 
 // Whether the link at a place was set up at the pair.
@@ -78,7 +89,7 @@ pub fn setup_is(s: &[u8], i: usize, p: Pair) -> bool
     requires { ⌜ FitPair p ⌝ }
     ensures { λ r. ⌜ r ≡ samePair (viewPair p) (getD (viewLinks (now (s .entry))) i noLink .setup) ⌝ }
 {
-    pair_here(s, i * 297 + 8, p)
+    pair_here(s, i * LINK_WIDTH + SETUP, p)
 }
 
 // Whether the link at a place was set up at the pair that a record spells from `from` on.
@@ -88,7 +99,7 @@ pub fn setup_stands(s: &[u8], i: usize, rec: &[u8], from: usize) -> bool
     requires { ⌜ PairIn (now rec) from ⌝ }
     ensures { λ r. ⌜ r ≡ samePair (pairHere (drop from (now (rec .entry)))) (getD (viewLinks (now (s .entry))) i noLink .setup) ⌝ }
 {
-    pair_stands(s, i * 297 + 8, rec, from)
+    pair_stands(s, i * LINK_WIDTH + SETUP, rec, from)
 }
 
 // Whether this node dialed the link at a place.
@@ -97,7 +108,7 @@ pub fn outbound_at(s: &[u8], i: usize) -> bool
     requires { ⌜ i < linkCount (now s) ⌝ }
     ensures { λ r. ⌜ r ≡ outward (getD (viewLinks (now (s .entry))) i noLink .dir) ⌝ }
 {
-    get_byte(s, i * 297 + 61) == 1
+    get_byte(s, i * LINK_WIDTH + DIR) == 1
 }
 
 // Whether the bundle of the link at a place released its setup.
@@ -106,7 +117,7 @@ pub fn released_at(s: &[u8], i: usize) -> bool
     requires { ⌜ i < linkCount (now s) ⌝ }
     ensures { λ r. ⌜ r ≡ getD (viewLinks (now (s .entry))) i noLink .released ⌝ }
 {
-    get_byte(s, i * 297 + 79) == 1
+    get_byte(s, i * LINK_WIDTH + RELEASED) == 1
 }
 
 // Whether a path of the link at a place is at the pair and counts.
@@ -116,8 +127,8 @@ pub fn proven_at(s: &[u8], i: usize, p: Pair) -> bool
     requires { ⌜ FitPair p ⌝ }
     ensures { λ r. ⌜ r ≡ any (provenAt (viewPair p)) (getD (viewLinks (now (s .entry))) i noLink .paths) ⌝ }
 {
-    let from = i * 297 + 80;
-    let end = from + 217;
+    let from = i * LINK_WIDTH + PATHS;
+    let end = from + PATHS_LEN;
     proves(&s[from..end], p)
 }
 
@@ -127,10 +138,10 @@ fn waits_at(s: &[u8], i: usize) -> bool
     requires { ⌜ i < linkCount (now s) ⌝ }
     ensures { λ r. ⌜ r ≡ empty (getD (viewLinks (now (s .entry))) i noLink .paths) || isLeg (getD (viewLinks (now (s .entry))) i noLink .holder) ⌝ }
 {
-    if get_byte(s, i * 297 + 296) == 0 {
+    if get_byte(s, i * LINK_WIDTH + LINK_PATH_COUNT) == 0 {
         return true;
     }
-    get_byte(s, i * 297 + 62) == 1
+    get_byte(s, i * LINK_WIDTH + HOLDER) == 1
 }
 
 // Whether the link at a place uses the connection at the pair.
@@ -173,7 +184,7 @@ pub fn in_use(s: &[u8], p: Pair) -> bool
     requires { ⌜ FitPair p ⌝ }
     ensures { λ r. ⌜ r ≡ inUse (viewPair p) (viewLinks (now (s .entry))) ⌝ }
 {
-    let n = s[9504] as usize;
+    let n = s[LINK_COUNT] as usize;
     let mut i = 0;
     while i < n {
         if uses_at(s, i, p) {
@@ -191,8 +202,8 @@ fn crowded_at(s: &[u8], i: usize, p: Pair) -> bool
     requires { ⌜ FitPair p ⌝ }
     ensures { λ r. ⌜ r ≡ full (viewPair p) (getD (viewLinks (now (s .entry))) i noLink .paths) ⌝ }
 {
-    let from = i * 297 + 80;
-    let end = from + 217;
+    let from = i * LINK_WIDTH + PATHS;
+    let end = from + PATHS_LEN;
     full_for(&s[from..end], p)
 }
 
@@ -221,17 +232,17 @@ pub fn get_link(s: &[u8], i: usize) -> LinkRec
     ensures { λ r. ⌜ FitRec r ⌝ }
     ensures { λ r. ⌜ viewLink r ≡ getD (viewLinks (now (s .entry))) i noLink ⌝ }
 {
-    let a = i * 297;
-    let no = get_be(s, a, 8);
-    let setup = load_pair(s, a + 8);
-    let b = get_byte(s, a + 61);
+    let a = i * LINK_WIDTH;
+    let no = get_be(s, a, U64);
+    let setup = load_pair(s, a + SETUP);
+    let b = get_byte(s, a + DIR);
     let dir = dir_of(b);
-    let leg = get_byte(s, a + 62);
-    let peer = take_16(s, a + 63);
-    let released = get_byte(s, a + 79);
-    let count = get_byte(s, a + 296);
-    let from = a + 80;
-    let end = from + 217;
+    let leg = get_byte(s, a + HOLDER);
+    let peer = take_16(s, a + HOLDER_PEER);
+    let released = get_byte(s, a + RELEASED);
+    let count = get_byte(s, a + LINK_PATH_COUNT);
+    let from = a + PATHS;
+    let end = from + PATHS_LEN;
     let paths = load_paths(&s[from..end]);
     LinkRec {
         no: LinkNo(no),

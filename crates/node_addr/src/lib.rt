@@ -1,4 +1,5 @@
 // Node addresses, transport addresses, digests and messages, by value.
+pub mod layout;
 pub mod place;
 pub mod run;
 pub mod same;

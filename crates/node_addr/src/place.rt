@@ -5,6 +5,11 @@ use crate::Message;
 use crate::NodeAddr;
 use crate::Pair;
 use crate::TransportId;
+use crate::layout::ADDR_CAP;
+use crate::layout::MESSAGE_BYTES;
+use crate::layout::MESSAGE_CAP;
+use crate::layout::PAIR_ADDR;
+use crate::layout::PAIR_LEN;
 use crate::run::same_16;
 use crate::run::same_32;
 use crate::run::same_48;
@@ -12,6 +17,7 @@ use lib_bytes::compare::before_run;
 use lib_bytes::compare::same_long;
 use lib_bytes::compare::same_run;
 use lib_bytes::compare::same_short;
+use lib_bytes::layout::U32;
 use lib_bytes::read::get_be;
 use lib_bytes::read::get_byte;
 use lib_bytes::read::take_16;
@@ -33,6 +39,7 @@ ghost use Rattle.rules.specs.Data.{samePair};
 ghost use Rattle.lib_laws.specs.Splice.{Wrote};
 ghost use Rattle.node_addr.specs.View.{viewPair, viewMessage, FitPair, FitMessage};
 ghost use Rattle.node_addr.specs.Place.{pairOf, pairHere, PairIn, pairCell, PairCell, messageOf, messageCell, MessageCell};
+ghost use Rattle.node_addr.specs.Layout.{messageWidth, pairWidth};
 
 pub fn load_node(s: &[u8], at: usize) -> NodeAddr
     requires { ⌜ at + 16 ≤ length (now s) ⌝ }
@@ -92,14 +99,14 @@ pub fn digest_here(s: &[u8], at: usize, d: Digest) -> bool
 }
 
 pub fn load_pair(s: &[u8], at: usize) -> Pair
-    requires { ⌜ at + 53 ≤ length (now s) ⌝ }
-    requires { ⌜ PairCell (take 53 (drop at (now s))) ⌝ }
+    requires { ⌜ at + pairWidth ≤ length (now s) ⌝ }
+    requires { ⌜ PairCell (take pairWidth (drop at (now s))) ⌝ }
     ensures { λ r. ⌜ FitPair r ⌝ }
-    ensures { λ r. ⌜ viewPair r ≡ pairOf (take 53 (drop at (now (s .entry)))) ⌝ }
+    ensures { λ r. ⌜ viewPair r ≡ pairOf (take pairWidth (drop at (now (s .entry)))) ⌝ }
 {
-    let t = get_be(s, at, 4);
-    let n = get_byte(s, at + 4);
-    let b = take_48(s, at + 5, 48);
+    let t = get_be(s, at, U32);
+    let n = get_byte(s, at + PAIR_LEN);
+    let b = take_48(s, at + PAIR_ADDR, ADDR_CAP);
     Pair {
         transport: TransportId(t as u32),
         addr: Addr {
@@ -111,40 +118,40 @@ pub fn load_pair(s: &[u8], at: usize) -> Pair
 
 pub fn put_pair(s: &mut [u8], at: usize, p: Pair) -> usize
     requires { ⌜ FitPair p ⌝ }
-    requires { ⌜ at + 53 ≤ length (now s) ⌝ }
-    ensures { λ r. ⌜ Wrote (now (s .entry)) at 53 (pairCell p) (now (s .exit)) r ⌝ }
+    requires { ⌜ at + pairWidth ≤ length (now s) ⌝ }
+    ensures { λ r. ⌜ Wrote (now (s .entry)) at pairWidth (pairCell p) (now (s .exit)) r ⌝ }
 {
     let b = p.addr.bytes;
     let l = p.addr.len as u8;
-    let t = put_be(s, at, p.transport.0 as u64, 4);
+    let t = put_be(s, at, p.transport.0 as u64, U32);
     let n = put_byte(s, t, l);
-    put_48(s, n, b, 48)
+    put_48(s, n, b, ADDR_CAP)
 }
 
 pub fn pair_here(s: &[u8], at: usize, p: Pair) -> bool
     requires { ⌜ FitPair p ⌝ }
-    requires { ⌜ at + 53 ≤ length (now s) ⌝ }
-    requires { ⌜ PairCell (take 53 (drop at (now s))) ⌝ }
-    ensures { λ r. ⌜ r ≡ samePair (viewPair p) (pairOf (take 53 (drop at (now (s .entry))))) ⌝ }
+    requires { ⌜ at + pairWidth ≤ length (now s) ⌝ }
+    requires { ⌜ PairCell (take pairWidth (drop at (now s))) ⌝ }
+    ensures { λ r. ⌜ r ≡ samePair (viewPair p) (pairOf (take pairWidth (drop at (now (s .entry))))) ⌝ }
 {
-    if get_be(s, at, 4) != p.transport.0 as u64 {
+    if get_be(s, at, U32) != p.transport.0 as u64 {
         return false;
     }
-    if get_byte(s, at + 4) as usize != p.addr.len {
+    if get_byte(s, at + PAIR_LEN) as usize != p.addr.len {
         return false;
     }
     let b = p.addr.bytes;
-    same_48(&b, 0, s, at + 5)
+    same_48(&b, 0, s, at + PAIR_ADDR)
 }
 
 // Whether the pair at a place is the one that a record spells at another: the length is among the first bytes, so that one run decides.
 pub fn pair_stands(s: &[u8], at: usize, rec: &[u8], from: usize) -> bool
-    requires { ⌜ at + 53 ≤ length (now s) ⌝ }
-    requires { ⌜ PairCell (take 53 (drop at (now s))) ⌝ }
+    requires { ⌜ at + pairWidth ≤ length (now s) ⌝ }
+    requires { ⌜ PairCell (take pairWidth (drop at (now s))) ⌝ }
     requires { ⌜ PairIn (now rec) from ⌝ }
-    ensures { λ r. ⌜ r ≡ samePair (pairHere (drop from (now (rec .entry)))) (pairOf (take 53 (drop at (now (s .entry))))) ⌝ }
+    ensures { λ r. ⌜ r ≡ samePair (pairHere (drop from (now (rec .entry)))) (pairOf (take pairWidth (drop at (now (s .entry))))) ⌝ }
 {
-    let n = 5 + get_byte(rec, from + 4) as usize;
+    let n = PAIR_ADDR + get_byte(rec, from + PAIR_LEN) as usize;
     if n < 8 {
         return same_short(rec, from, s, at, n);
     }
@@ -157,9 +164,9 @@ pub fn load_spelt(rec: &[u8], from: usize) -> Pair
     ensures { λ r. ⌜ FitPair r ⌝ }
     ensures { λ r. ⌜ viewPair r ≡ pairHere (drop from (now (rec .entry))) ⌝ }
 {
-    let t = get_be(rec, from, 4);
-    let n = get_byte(rec, from + 4) as usize;
-    let b = take_48(rec, from + 5, n);
+    let t = get_be(rec, from, U32);
+    let n = get_byte(rec, from + PAIR_LEN) as usize;
+    let b = take_48(rec, from + PAIR_ADDR, n);
     Pair {
         transport: TransportId(t as u32),
         addr: Addr { len: n, bytes: b },
@@ -167,13 +174,13 @@ pub fn load_spelt(rec: &[u8], from: usize) -> Pair
 }
 
 pub fn load_message(s: &[u8], at: usize) -> Message
-    requires { ⌜ at + 129 ≤ length (now s) ⌝ }
-    requires { ⌜ MessageCell (take 129 (drop at (now s))) ⌝ }
+    requires { ⌜ at + messageWidth ≤ length (now s) ⌝ }
+    requires { ⌜ MessageCell (take messageWidth (drop at (now s))) ⌝ }
     ensures { λ r. ⌜ FitMessage r ⌝ }
-    ensures { λ r. ⌜ viewMessage r ≡ messageOf (take 129 (drop at (now (s .entry)))) ⌝ }
+    ensures { λ r. ⌜ viewMessage r ≡ messageOf (take messageWidth (drop at (now (s .entry)))) ⌝ }
 {
     let n = get_byte(s, at);
-    let b = take_128(s, at + 1, 128);
+    let b = take_128(s, at + MESSAGE_BYTES, MESSAGE_CAP);
     Message {
         len: n as usize,
         bytes: b,
@@ -182,19 +189,19 @@ pub fn load_message(s: &[u8], at: usize) -> Message
 
 pub fn put_message(s: &mut [u8], at: usize, m: Message) -> usize
     requires { ⌜ FitMessage m ⌝ }
-    requires { ⌜ at + 129 ≤ length (now s) ⌝ }
-    ensures { λ r. ⌜ Wrote (now (s .entry)) at 129 (messageCell m) (now (s .exit)) r ⌝ }
+    requires { ⌜ at + messageWidth ≤ length (now s) ⌝ }
+    ensures { λ r. ⌜ Wrote (now (s .entry)) at messageWidth (messageCell m) (now (s .exit)) r ⌝ }
 {
     let b = m.bytes;
     let n = put_byte(s, at, m.len as u8);
-    put_128(s, n, b, 128)
+    put_128(s, n, b, MESSAGE_CAP)
 }
 
 pub fn message_here(s: &[u8], at: usize, m: Message) -> bool
     requires { ⌜ FitMessage m ⌝ }
-    requires { ⌜ at + 129 ≤ length (now s) ⌝ }
-    requires { ⌜ MessageCell (take 129 (drop at (now s))) ⌝ }
-    ensures { λ r. ⌜ r ≡ same (viewMessage m) (messageOf (take 129 (drop at (now (s .entry))))) ⌝ }
+    requires { ⌜ at + messageWidth ≤ length (now s) ⌝ }
+    requires { ⌜ MessageCell (take messageWidth (drop at (now s))) ⌝ }
+    ensures { λ r. ⌜ r ≡ same (viewMessage m) (messageOf (take messageWidth (drop at (now (s .entry))))) ⌝ }
 {
     if get_byte(s, at) as usize != m.len {
         return false;

@@ -16,6 +16,7 @@ use Rattle.lib_laws.specs.Splice.{splice, length-splice, splice-none, splice-sp
 use Rattle.node_addr.specs.declared.Pair as pair
 use Rattle.node_addr.specs.View.{viewPair, FitPair}
 use Rattle.output_field.specs.Part.{header, pair-length, frame-is, wrote-before}
+use Rattle.node_addr.specs.Layout.{pairWidth}
 
 -- ---- a row of pairs
 
@@ -39,12 +40,12 @@ pairs-more s t a b = rw (pairs-append s t) (wrote-then a b)
 
 -- ---- lengths
 
-pairs-most : (ps : List pair.Pair) → All FitPair ps → length (pairsBytes (map viewPair ps)) ≤ 53 * length ps
+pairs-most : (ps : List pair.Pair) → All FitPair ps → length (pairsBytes (map viewPair ps)) ≤ pairWidth * length ps
 pairs-most [] a = omega arith
 pairs-most (p ∷ ps) a = omega (arith, length-append (pairBytes (viewPair p)) (pairsBytes (map viewPair ps)), pair-length (a .0), a .0 .addr .kept, pairs-most ps (a .1))
 
 -- a list of at most cap pairs
-pub pairs-small : {b : pair.Pair} {cap n : ℕ} {ps : List pair.Pair} → Kept FitPair b cap n ps → length (pairsBytes (map viewPair (take n ps))) ≤ 53 * n
+pub pairs-small : {b : pair.Pair} {cap n : ℕ} {ps : List pair.Pair} → Kept FitPair b cap n ps → length (pairsBytes (map viewPair (take n ps))) ≤ pairWidth * n
 pairs-small {n = n} {ps} k =
     let e : length (take n ps) ≡ n = length-take-le n ps (omega arith) in
     rw e at (pairs-most (take n ps) (all-take FitPair n ps (k .each)))

@@ -22,15 +22,13 @@ use Rattle.lib_laws.specs.Fields.{cuts, sum, cuts-spelt, length-joined}
 use Rattle.lib_laws.specs.Cell.{num, byteOf, num-same, Code, byte-same}
 use Rattle.lib_laws.specs.Same.{num-cells, cells-same}
 use Rattle.node_addr.specs.Alike.{part-of, byte-here}
+use Rattle.params.specs.Layout.{settingsWs, atNext, atSettings, headLen, settingsLen}
 use Rattle.params.specs.View.{viewParams, in-range-says}
 use Rattle.params.specs.declared.Params as params
 
 -- ---- what it shows
 
 -- unheard, interval, silentbase, silentcap, horizon, handshake, resend, silent, resends, replays, counted, pending
-abbrev pub settingsWs : List ℕ
-settingsWs = 8 ∷ 8 ∷ 8 ∷ 8 ∷ 8 ∷ 8 ∷ 8 ∷ 4 ∷ 4 ∷ 1 ∷ 1 ∷ 8 ∷ []
-
 abbrev pub settingsFrom : List Bytes → Params
 settingsFrom fs = record {
   unheard = num (getD fs 0 []);
@@ -51,28 +49,28 @@ abbrev pub viewMe : Bytes → Bytes
 viewMe s = take 16 s
 
 unfoldable pub paramsOf : Bytes → Params
-paramsOf s = settingsFrom (cuts 0 0 settingsWs (take 74 (drop 16 s)))
+paramsOf s = settingsFrom (cuts 0 0 settingsWs (take settingsLen (drop atSettings s)))
 
 abbrev pub viewNext : Bytes → ℕ
-viewNext s = num (take 8 (drop 90 s))
+viewNext s = num (take 8 (drop atNext s))
 
 -- the settings are within range
 pub record FitHead (s : Bytes) : Type 0 where
-  pub size : length s ≡ 98
+  pub size : length s ≡ headLen
   pub some-counted : 1 ≤ paramsOf s .counted
   pub counted : paramsOf s .counted ≤ 8
   pub replays : paramsOf s .replays ≤ 8
 
 -- a head that shows so
 pub record Shows (s who : Bytes) (c : Params) (n : ℕ) : Type 0 where
-  pub size : length s ≡ 98
+  pub size : length s ≡ headLen
   pub me : viewMe s ≡ who
   pub params : paramsOf s ≡ c
   pub next : viewNext s ≡ n
 
 -- ---- where the settings stand
-field : (s : Bytes) (o w : ℕ) → o + w ≤ 74 → take w (drop o (take 74 (drop 16 s))) ≡ take w (drop (16 + o) s)
-field s o w h = part-of o w 74 (drop 16 s) h ∙ rw (drop-drop o 16 s)
+field : (s : Bytes) (o w : ℕ) → o + w ≤ settingsLen → take w (drop o (take settingsLen (drop atSettings s))) ≡ take w (drop (16 + o) s)
+field s o w h = part-of o w settingsLen (drop atSettings s) h ∙ rw (drop-drop o 16 s)
 
 pub settings-at : (s : Bytes) → paramsOf s ≡ settingsFrom (cuts 16 0 settingsWs s)
 unfolding paramsOf
@@ -135,11 +133,11 @@ settings-joined : (p : params.Params) → settingsCell p ≡ joined (settingsFie
 unfolding settingsCell joined
 settings-joined p = simp (append-assoc, append-nil)
 
-pub settings-length : (p : params.Params) → length (settingsCell p) ≡ 74
+pub settings-length : (p : params.Params) → length (settingsCell p) ≡ settingsLen
 unfolding sum
 settings-length p = ap length (settings-joined p) ∙ length-joined (settingsFields p) ∙ ap sum (settings-widths p)
 
-pub settings-written : (p : params.Params) {xs : Bytes} {at : ℕ} {ys : Bytes} {r : ℕ} → Wrote xs at 74 (spansCell p ++ countsCell p) ys r → Wrote xs at 74 (settingsCell p) ys r
+pub settings-written : (p : params.Params) {xs : Bytes} {at : ℕ} {ys : Bytes} {r : ℕ} → Wrote xs at settingsLen (spansCell p ++ countsCell p) ys r → Wrote xs at settingsLen (settingsCell p) ys r
 unfolding settingsCell
 settings-written p w = w
 
@@ -173,7 +171,7 @@ settings-shows p b =
     )
 
 -- ---- a head after a write
-module _ {s ys : Bytes} {r : ℕ} (z : length s ≡ 98) where
+module _ {s ys : Bytes} {r : ℕ} (z : length s ≡ headLen) where
   pub me-written : {who : Bytes} → Wrote s 0 16 who ys r → Shows ys who (paramsOf s) (viewNext s)
   unfolding paramsOf
   me-written {who} w =
@@ -182,34 +180,34 @@ module _ {s ys : Bytes} {r : ℕ} (z : length s ≡ 98) where
       record {
         size = length-splice s 0 who (omega arith) ∙ z;
         me = part-same 16 s 0 who (omega arith) h;
-        params = rw (part-after 16 74 s 0 who (omega arith) (omega arith));
-        next = rw (part-after 90 8 s 0 who (omega arith) (omega arith));
+        params = rw (part-after 16 settingsLen s 0 who (omega arith) (omega arith));
+        next = rw (part-after atNext 8 s 0 who (omega arith) (omega arith));
       }
       )
 
-  pub params-written : {p : params.Params} → Wrote s 16 74 (settingsCell p) ys r → Within p → Shows ys (viewMe s) (viewParams p) (viewNext s)
+  pub params-written : {p : params.Params} → Wrote s 16 settingsLen (settingsCell p) ys r → Within p → Shows ys (viewMe s) (viewParams p) (viewNext s)
   unfolding paramsOf
   params-written {p} w b =
-      let h : length (settingsCell p) ≡ 74 = w .size in
+      let h : length (settingsCell p) ≡ settingsLen = w .size in
       rw (w .is) (
       record {
         size = length-splice s 16 (settingsCell p) (omega arith) ∙ z;
         me = part-before 0 16 s 16 (settingsCell p) (lit≤ tt) (omega arith);
-        params = ap (λ (c : Bytes). settingsFrom (cuts 0 0 settingsWs c)) (part-same 74 s 16 (settingsCell p) (omega arith) h) ∙ settings-shows p b;
-        next = rw (part-after 90 8 s 16 (settingsCell p) (omega arith) (omega arith));
+        params = ap (λ (c : Bytes). settingsFrom (cuts 0 0 settingsWs c)) (part-same settingsLen s 16 (settingsCell p) (omega arith) h) ∙ settings-shows p b;
+        next = rw (part-after atNext 8 s 16 (settingsCell p) (omega arith) (omega arith));
       }
       )
 
-  pub next-written : {n : ℕ} → Wrote s 90 8 (digits 8 n) ys r → Fits w64 n → Shows ys (viewMe s) (paramsOf s) n
+  pub next-written : {n : ℕ} → Wrote s atNext 8 (digits 8 n) ys r → Fits w64 n → Shows ys (viewMe s) (paramsOf s) n
   unfolding paramsOf
   next-written {n} w b =
       let h : length (digits 8 n) ≡ 8 = w .size in
       rw (w .is) (
       record {
-        size = length-splice s 90 (digits 8 n) (omega arith) ∙ z;
-        me = part-before 0 16 s 90 (digits 8 n) (lit≤ tt) (omega arith);
-        params = rw (part-before 16 74 s 90 (digits 8 n) (lit≤ tt) (omega arith));
-        next = rw (part-same 8 s 90 (digits 8 n) (omega arith) h) (more-digits 8 n (b .fits));
+        size = length-splice s atNext (digits 8 n) (omega arith) ∙ z;
+        me = part-before 0 16 s atNext (digits 8 n) (lit≤ tt) (omega arith);
+        params = rw (part-before 16 settingsLen s atNext (digits 8 n) (lit≤ tt) (omega arith));
+        next = rw (part-same 8 s atNext (digits 8 n) (omega arith) h) (more-digits 8 n (b .fits));
       }
       )
 
@@ -222,11 +220,11 @@ shows-fit {c = c} e h =
     record { size = h .size; some-counted = rw (h .params) (r .0); counted = rw (h .params) (r .1); replays = rw (h .params) (r .2) }
 
 -- ---- heads that show the same are the same
-module _ (c d : Bytes) (h : length c ≡ 74) (k : length d ≡ 74) (x : All IsByte c) (y : All IsByte d) where
+module _ (c d : Bytes) (h : length c ≡ settingsLen) (k : length d ≡ settingsLen) (x : All IsByte c) (y : All IsByte d) where
   code-at : (s : Bytes) (o : ℕ) → o < length s → All IsByte s → Code 256 (take 1 (drop o s))
   code-at s o q a = record { size = simp (length-take, length-drop) (omega arith); low = rw (← byte-here s o) (all-at IsByte s o 0 a q) }
 
-  one-same : (o : ℕ) → o < 74 → byteOf (take 1 (drop o c)) ≡ byteOf (take 1 (drop o d)) → take 1 (drop o c) ≡ take 1 (drop o d)
+  one-same : (o : ℕ) → o < settingsLen → byteOf (take 1 (drop o c)) ≡ byteOf (take 1 (drop o d)) → take 1 (drop o c) ≡ take 1 (drop o d)
   one-same o q e = byte-same (code-at c o (omega arith) x) (code-at d o (omega arith) y) e
 
   settings-same : settingsFrom (cuts 0 0 settingsWs c) ≡ settingsFrom (cuts 0 0 settingsWs d) → c ≡ d
@@ -248,30 +246,30 @@ module _ (c d : Bytes) (h : length c ≡ 74) (k : length d ≡ 74) (x : All IsBy
         num-cells 8 66 c d (omega arith) (omega arith) x y (ap (λ (p : Params). p .pending) e),
       ))
 
-head-whole : (s : Bytes) → length s ≡ 98 → s ≡ take 16 s ++ (take 74 (drop 16 s) ++ take 8 (drop 90 s))
+head-whole : (s : Bytes) → length s ≡ headLen → s ≡ take 16 s ++ (take settingsLen (drop atSettings s) ++ take 8 (drop atNext s))
 head-whole s h =
-    sym (take-append-drop 16 s)
+    sym (take-append-drop atSettings s)
     ∙ ap (λ (u : Bytes). take 16 s ++ u) (
-    sym (take-append-drop 74 (drop 16 s))
-    ∙ ap (λ (u : Bytes). take 74 (drop 16 s) ++ u) (drop-drop 74 16 s ∙ sym (take-all 8 (drop 90 s) (rw length-drop (omega arith))))
+    sym (take-append-drop settingsLen (drop atSettings s))
+    ∙ ap (λ (u : Bytes). take settingsLen (drop atSettings s) ++ u) (drop-drop settingsLen 16 s ∙ sym (take-all 8 (drop atNext s) (rw length-drop (omega arith))))
     )
 
 pub head-same : {s t : Bytes} → FitHead s → FitHead t → All IsByte s → All IsByte t → viewMe s ≡ viewMe t → paramsOf s ≡ paramsOf t → viewNext s ≡ viewNext t → s ≡ t
 unfolding paramsOf
 head-same {s} {t} a b x y m p n =
-    let c : take 74 (drop 16 s) ≡ take 74 (drop 16 t) = settings-same
-    (take 74 (drop 16 s))
-    (take 74 (drop 16 t))
+    let c : take settingsLen (drop atSettings s) ≡ take settingsLen (drop atSettings t) = settings-same
+    (take settingsLen (drop atSettings s))
+    (take settingsLen (drop atSettings t))
     (simp (length-take, length-drop) (omega (arith, a .size)))
     (simp (length-take, length-drop) (omega (arith, b .size)))
-    (all-take IsByte 74 (drop 16 s) (all-drop IsByte 16 s x))
-    (all-take IsByte 74 (drop 16 t) (all-drop IsByte 16 t y))
+    (all-take IsByte settingsLen (drop atSettings s) (all-drop IsByte 16 s x))
+    (all-take IsByte settingsLen (drop atSettings t) (all-drop IsByte 16 t y))
     p in
-    let e : take 8 (drop 90 s) ≡ take 8 (drop 90 t) = num-same
-    (take 8 (drop 90 s))
-    (take 8 (drop 90 t))
-    (all-take IsByte 8 (drop 90 s) (all-drop IsByte 90 s x))
-    (all-take IsByte 8 (drop 90 t) (all-drop IsByte 90 t y))
+    let e : take 8 (drop atNext s) ≡ take 8 (drop atNext t) = num-same
+    (take 8 (drop atNext s))
+    (take 8 (drop atNext t))
+    (all-take IsByte 8 (drop atNext s) (all-drop IsByte atNext s x))
+    (all-take IsByte 8 (drop atNext t) (all-drop IsByte atNext t y))
     (simp (length-take, length-drop) (omega (arith, a .size, b .size)))
     n in
     head-whole s (a .size) ∙ rw (m, c, e) (sym (head-whole t (b .size)))

@@ -1,5 +1,21 @@
 // The head region, 98 bytes: the node's own address 16, the settings 74, the next link number 8.
 use crate::Params;
+use crate::layout::COUNTED;
+use crate::layout::HANDSHAKE;
+use crate::layout::HORIZON;
+use crate::layout::INTERVAL;
+use crate::layout::ME;
+use crate::layout::NEXT;
+use crate::layout::PENDING;
+use crate::layout::REPLAYS;
+use crate::layout::RESEND;
+use crate::layout::RESENDS;
+use crate::layout::SILENT;
+use crate::layout::SILENTBASE;
+use crate::layout::SILENTCAP;
+use crate::layout::UNHEARD;
+use lib_bytes::layout::U32;
+use lib_bytes::layout::U64;
 use lib_bytes::read::get_be;
 use lib_bytes::read::get_byte;
 use lib_bytes::write::put_be;
@@ -15,12 +31,13 @@ ghost use Rattle.rules.specs.Time.{outOfRange};
 ghost use Rattle.lib_laws.specs.Splice.{Wrote};
 ghost use Rattle.params.specs.View.{viewParams};
 ghost use Rattle.params.specs.Head.{viewMe, viewNext, paramsOf, FitHead, Shows, spansCell, countsCell};
+ghost use Rattle.params.specs.Layout.{headLen};
 
 pub fn load_me(s: &[u8]) -> NodeAddr
     requires { ⌜ FitHead (now s) ⌝ }
     ensures { λ r. ⌜ r .0 ≡ viewMe (now (s .entry)) ⌝ }
 {
-    load_node(s, 0)
+    load_node(s, ME)
 }
 
 pub fn put_me(s: &mut [u8], n: NodeAddr)
@@ -28,14 +45,14 @@ pub fn put_me(s: &mut [u8], n: NodeAddr)
     ensures { λ r. ⌜ FitHead (now (s .exit)) ⌝ }
     ensures { λ r. ⌜ Shows (now (s .exit)) (n .0) (paramsOf (now (s .entry))) (viewNext (now (s .entry))) ⌝ }
 {
-    put_node(s, 0, n);
+    put_node(s, ME, n);
 }
 
 pub fn get_next(s: &[u8]) -> u64
     requires { ⌜ FitHead (now s) ⌝ }
     ensures { λ r. ⌜ r ≡ viewNext (now (s .entry)) ⌝ }
 {
-    get_be(s, 90, 8)
+    get_be(s, NEXT, U64)
 }
 
 pub fn put_next(s: &mut [u8], n: u64)
@@ -43,7 +60,7 @@ pub fn put_next(s: &mut [u8], n: u64)
     ensures { λ r. ⌜ FitHead (now (s .exit)) ⌝ }
     ensures { λ r. ⌜ Shows (now (s .exit)) (viewMe (now (s .entry))) (paramsOf (now (s .entry))) n ⌝ }
 {
-    put_be(s, 90, n, 8);
+    put_be(s, NEXT, n, U64);
 }
 
 pub fn load_params(s: &[u8]) -> Params
@@ -51,18 +68,18 @@ pub fn load_params(s: &[u8]) -> Params
     ensures { λ r. ⌜ viewParams r ≡ paramsOf (now (s .entry)) ⌝ }
 {
     Params {
-        unheard: get_be(s, 16, 8),
-        interval: get_be(s, 24, 8),
-        replays: get_byte(s, 80),
-        silent: get_be(s, 72, 4) as u32,
-        silentbase: get_be(s, 32, 8),
-        silentcap: get_be(s, 40, 8),
-        horizon: get_be(s, 48, 8),
-        counted: get_byte(s, 81),
-        handshake: get_be(s, 56, 8),
-        resend: get_be(s, 64, 8),
-        resends: get_be(s, 76, 4) as u32,
-        pending: get_be(s, 82, 8),
+        unheard: get_be(s, UNHEARD, U64),
+        interval: get_be(s, INTERVAL, U64),
+        replays: get_byte(s, REPLAYS),
+        silent: get_be(s, SILENT, U32) as u32,
+        silentbase: get_be(s, SILENTBASE, U64),
+        silentcap: get_be(s, SILENTCAP, U64),
+        horizon: get_be(s, HORIZON, U64),
+        counted: get_byte(s, COUNTED),
+        handshake: get_be(s, HANDSHAKE, U64),
+        resend: get_be(s, RESEND, U64),
+        resends: get_be(s, RESENDS, U32) as u32,
+        pending: get_be(s, PENDING, U64),
     }
 }
 
@@ -71,7 +88,7 @@ pub fn get_pending(s: &[u8]) -> u64
     requires { ⌜ FitHead (now s) ⌝ }
     ensures { λ r. ⌜ r ≡ paramsOf (now (s .entry)) .pending ⌝ }
 {
-    get_be(s, 82, 8)
+    get_be(s, PENDING, U64)
 }
 
 // The seven spans.
@@ -79,13 +96,13 @@ fn put_spans(s: &mut [u8], at: usize, p: Params) -> usize
     requires { ⌜ at + 56 ≤ length (now s) ⌝ }
     ensures { λ r. ⌜ Wrote (now (s .entry)) at 56 (spansCell p) (now (s .exit)) r ⌝ }
 {
-    let a = put_be(s, at, p.unheard, 8);
-    let b = put_be(s, a, p.interval, 8);
-    let c = put_be(s, b, p.silentbase, 8);
-    let d = put_be(s, c, p.silentcap, 8);
-    let e = put_be(s, d, p.horizon, 8);
-    let f = put_be(s, e, p.handshake, 8);
-    put_be(s, f, p.resend, 8)
+    let a = put_be(s, at, p.unheard, U64);
+    let b = put_be(s, a, p.interval, U64);
+    let c = put_be(s, b, p.silentbase, U64);
+    let d = put_be(s, c, p.silentcap, U64);
+    let e = put_be(s, d, p.horizon, U64);
+    let f = put_be(s, e, p.handshake, U64);
+    put_be(s, f, p.resend, U64)
 }
 
 // The counts.
@@ -93,19 +110,19 @@ fn put_counts(s: &mut [u8], at: usize, p: Params) -> usize
     requires { ⌜ at + 18 ≤ length (now s) ⌝ }
     ensures { λ r. ⌜ Wrote (now (s .entry)) at 18 (countsCell p) (now (s .exit)) r ⌝ }
 {
-    let a = put_be(s, at, p.silent as u64, 4);
-    let b = put_be(s, a, p.resends as u64, 4);
+    let a = put_be(s, at, p.silent as u64, U32);
+    let b = put_be(s, a, p.resends as u64, U32);
     let c = put_byte(s, b, p.replays);
     let d = put_byte(s, c, p.counted);
-    put_be(s, d, p.pending, 8)
+    put_be(s, d, p.pending, U64)
 }
 
 pub fn put_params(s: &mut [u8], p: Params)
-    requires { ⌜ length (now s) ≡ 98 ⌝ }
+    requires { ⌜ length (now s) ≡ headLen ⌝ }
     requires { ⌜ outOfRange (viewParams p) ≡ false ⌝ }
     ensures { λ r. ⌜ FitHead (now (s .exit)) ⌝ }
     ensures { λ r. ⌜ Shows (now (s .exit)) (viewMe (now (s .entry))) (viewParams p) (viewNext (now (s .entry))) ⌝ }
 {
-    let a = put_spans(s, 16, p);
+    let a = put_spans(s, UNHEARD, p);
     put_counts(s, a, p);
 }

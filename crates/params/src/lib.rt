@@ -1,5 +1,6 @@
 // The settings: their values by default, and which are within range.
 pub mod head;
+pub mod layout;
 pub mod time;
 
 ghost use mathlib.Core.Path.{_≡_};

@@ -4,6 +4,7 @@ use crate::new;
 ghost use mathlib.Core.Path.{_≡_};
 ghost use lib.ListN.{length};
 ghost use Rattle.settle.specs.Contract.{Left, Begun, Called};
+ghost use Rattle.table_layout.specs.Layout.{tableLen};
 
 // What `call` answers, as C lays it out.
 #[repr(C)]
@@ -15,14 +16,14 @@ pub struct Settled {
 // How many bytes a table has.
 #[no_mangle]
 pub extern "C" fn settle_table_size() -> usize
-    ensures { λ r. ⌜ r ≡ 45478 ⌝ }
+    ensures { λ r. ⌜ r ≡ tableLen ⌝ }
 {
     45478
 }
 
 #[no_mangle]
 pub extern "C" fn settle_new(table: &mut [u8], input: &[u8]) -> u8
-    requires { ⌜ length (now table) ≡ 45478 ⌝ }
+    requires { ⌜ length (now table) ≡ tableLen ⌝ }
     ensures { λ r. ⌜ Begun (now (table .entry)) (now (input .entry)) (now (table .exit)) r ⌝ }
 {
     new(table, input)

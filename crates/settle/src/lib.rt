@@ -9,10 +9,11 @@ use table_new::start;
 ghost use mathlib.Core.Path.{_≡_};
 ghost use lib.ListN.{length};
 ghost use Rattle.settle.specs.Contract.{Left, Begun, Called};
+ghost use Rattle.table_layout.specs.Layout.{tableLen};
 
 // Makes a table of the lent bytes. The answer is the refusal's number, 0 for none.
 pub fn new(table: &mut [u8], input: &[u8]) -> u8
-    requires { ⌜ length (now table) ≡ 45478 ⌝ }
+    requires { ⌜ length (now table) ≡ tableLen ⌝ }
     ensures { λ r. ⌜ Begun (now (table .entry)) (now (input .entry)) (now (table .exit)) r ⌝ }
 {
     let r = read_new(input);

@@ -5,6 +5,8 @@ use gates_types::Verdict;
 use node_addr::Digest;
 use node_addr::NodeAddr;
 use params::Params;
+use table_layout::layout::GATES;
+use table_layout::layout::GATES_END;
 ghost use mathlib.Core.Path.{_≡_};
 ghost use mathlib.Core.Option.{some};
 ghost use lib.ListN.{length};
@@ -22,7 +24,7 @@ pub fn memory_count(t: &[u8]) -> usize
     requires { ⌜ FitTable (now t) ⌝ }
     ensures { λ r. ⌜ r ≡ length (viewTable (now (t .entry)) .gates) ⌝ }
 {
-    gates::map::memory_count(&t[25189..45478])
+    gates::map::memory_count(&t[GATES..GATES_END])
 }
 
 // The judgement of what asks.
@@ -39,7 +41,16 @@ pub fn judged(
     requires { ⌜ FitTable (now t) ⌝ }
     ensures { λ r. ⌜ refusedBy r ≡ rule.gate (viewParams c) clock (asking source l digest epoch) (rule.memory (peer .0) (viewTable (now (t .entry)) .gates)) ⌝ }
 {
-    gates::calls::judged(&t[25189..45478], peer, source, l, digest, epoch, clock, c)
+    gates::calls::judged(
+        &t[GATES..GATES_END],
+        peer,
+        source,
+        l,
+        digest,
+        epoch,
+        clock,
+        c,
+    )
 }
 
 // A msg1 with a digest promoted the peer unheard.
@@ -50,7 +61,7 @@ pub fn promoted(t: &mut [u8], peer: NodeAddr, digest: Digest, clock: u64, c: Par
     requires { ⌜ Room (peer .0) (viewTable (now t) .gates) (length (viewTable (now t) .gates)) ⌝ }
     ensures { λ r. ⌜ Told (now (t .exit)) (withGates (rule.store (rule.promoted (viewParams c) clock (digest .0) (rule.memory (peer .0) (viewTable (now (t .entry)) .gates))) (viewTable (now (t .entry)) .gates)) (viewTable (now (t .entry)))) ⌝ }
 {
-    gates::calls::promoted(&mut t[25189..45478], peer, digest, clock, c);
+    gates::calls::promoted(&mut t[GATES..GATES_END], peer, digest, clock, c);
 }
 
 // A session of the peer ended unheard; `setup` is the digest of the msg1 that it came from, if it came from one (`answered`).
@@ -70,7 +81,15 @@ pub fn ended(
     requires { ⌜ Room (peer .0) (viewTable (now t) .gates) (length (viewTable (now t) .gates)) ⌝ }
     ensures { λ r. ⌜ Told (now (t .exit)) (withGates (rule.store (rule.ended (viewParams c) clock (some epoch) (optional answered (setup .0)) (rule.memory (peer .0) (viewTable (now (t .entry)) .gates))) (viewTable (now (t .entry)) .gates)) (viewTable (now (t .entry)))) ⌝ }
 {
-    gates::calls::ended(&mut t[25189..45478], peer, epoch, answered, setup, clock, c);
+    gates::calls::ended(
+        &mut t[GATES..GATES_END],
+        peer,
+        epoch,
+        answered,
+        setup,
+        clock,
+        c,
+    );
 }
 
 // A heard peering of the peer was given up.
@@ -80,7 +99,7 @@ pub fn stamp(t: &mut [u8], peer: NodeAddr, clock: u64)
     requires { ⌜ Room (peer .0) (viewTable (now t) .gates) (length (viewTable (now t) .gates)) ⌝ }
     ensures { λ r. ⌜ Told (now (t .exit)) (withGates (rule.store (rule.stamped clock (rule.memory (peer .0) (viewTable (now (t .entry)) .gates))) (viewTable (now (t .entry)) .gates)) (viewTable (now (t .entry)))) ⌝ }
 {
-    gates::calls::stamp(&mut t[25189..45478], peer, clock);
+    gates::calls::stamp(&mut t[GATES..GATES_END], peer, clock);
 }
 
 // A frame of the peer authenticated: its replays and its silences are forgotten.
@@ -89,5 +108,5 @@ pub fn heard(t: &mut [u8], peer: NodeAddr)
     requires { ⌜ Ascending rule.earlierMemory (viewTable (now t) .gates) ⌝ }
     ensures { λ r. ⌜ Told (now (t .exit)) (withGates (rule.store (rule.clear (rule.memory (peer .0) (viewTable (now (t .entry)) .gates))) (viewTable (now (t .entry)) .gates)) (viewTable (now (t .entry)))) ⌝ }
 {
-    gates::calls::heard(&mut t[25189..45478], peer);
+    gates::calls::heard(&mut t[GATES..GATES_END], peer);
 }

@@ -5,6 +5,8 @@ use node_addr::Found;
 use node_addr::LinkNo;
 use node_addr::NodeAddr;
 use node_addr::Pair;
+use table_layout::layout::HELD;
+use table_layout::layout::HELD_END;
 ghost use mathlib.Core.Path.{_≡_};
 ghost use Prim.Native.Nat.{_<_};
 ghost use lib.ListN.{length, drop, set};
@@ -22,7 +24,7 @@ pub fn held_count(t: &[u8]) -> usize
     requires { ⌜ FitTable (now t) ⌝ }
     ensures { λ r. ⌜ r ≡ length (viewTable (now (t .entry)) .held) ⌝ }
 {
-    held::map::held_count(&t[20836..25189])
+    held::map::held_count(&t[HELD..HELD_END])
 }
 
 // The place of a peer.
@@ -30,7 +32,7 @@ pub fn find_held(t: &[u8], peer: NodeAddr) -> Found
     requires { ⌜ FitTable (now t) ⌝ }
     ensures { λ r. ⌜ Finds r (scan (settle.named (peer .0)) 0 (viewTable (now (t .entry)) .held)) ⌝ }
 {
-    held::map::find_held(&t[20836..25189], peer)
+    held::map::find_held(&t[HELD..HELD_END], peer)
 }
 
 pub fn held_peer(t: &[u8], i: usize) -> NodeAddr
@@ -38,7 +40,7 @@ pub fn held_peer(t: &[u8], i: usize) -> NodeAddr
     requires { ⌜ i < length (viewTable (now t) .held) ⌝ }
     ensures { λ r. ⌜ r .0 ≡ nthHeld (viewTable (now (t .entry))) i .peer ⌝ }
 {
-    held::at::peer_at(&t[20836..25189], i)
+    held::at::peer_at(&t[HELD..HELD_END], i)
 }
 
 pub fn held_link(t: &[u8], i: usize) -> LinkNo
@@ -46,7 +48,7 @@ pub fn held_link(t: &[u8], i: usize) -> LinkNo
     requires { ⌜ i < length (viewTable (now t) .held) ⌝ }
     ensures { λ r. ⌜ r .0 ≡ nthHeld (viewTable (now (t .entry))) i .link ⌝ }
 {
-    held::at::link_at(&t[20836..25189], i)
+    held::at::link_at(&t[HELD..HELD_END], i)
 }
 
 pub fn held_epoch(t: &[u8], i: usize) -> u64
@@ -54,7 +56,7 @@ pub fn held_epoch(t: &[u8], i: usize) -> u64
     requires { ⌜ i < length (viewTable (now t) .held) ⌝ }
     ensures { λ r. ⌜ r ≡ nthHeld (viewTable (now (t .entry))) i .epoch ⌝ }
 {
-    held::at::epoch_at(&t[20836..25189], i)
+    held::at::epoch_at(&t[HELD..HELD_END], i)
 }
 
 pub fn held_installed(t: &[u8], i: usize) -> u64
@@ -62,7 +64,7 @@ pub fn held_installed(t: &[u8], i: usize) -> u64
     requires { ⌜ i < length (viewTable (now t) .held) ⌝ }
     ensures { λ r. ⌜ r ≡ nthHeld (viewTable (now (t .entry))) i .installed ⌝ }
 {
-    held::at::installed_at(&t[20836..25189], i)
+    held::at::installed_at(&t[HELD..HELD_END], i)
 }
 
 pub fn held_heard(t: &[u8], i: usize) -> bool
@@ -70,7 +72,7 @@ pub fn held_heard(t: &[u8], i: usize) -> bool
     requires { ⌜ i < length (viewTable (now t) .held) ⌝ }
     ensures { λ r. ⌜ r ≡ nthHeld (viewTable (now (t .entry))) i .heard ⌝ }
 {
-    held::at::heard_at(&t[20836..25189], i)
+    held::at::heard_at(&t[HELD..HELD_END], i)
 }
 
 // Whether a frame of its session has been heard.
@@ -79,7 +81,7 @@ pub fn held_dated(t: &[u8], i: usize) -> bool
     requires { ⌜ i < length (viewTable (now t) .held) ⌝ }
     ensures { λ r. ⌜ r ≡ is (nthHeld (viewTable (now (t .entry))) i .last) ⌝ }
 {
-    held::at::dated_at(&t[20836..25189], i)
+    held::at::dated_at(&t[HELD..HELD_END], i)
 }
 
 // When the last frame was heard; 0 if none was.
@@ -88,7 +90,7 @@ pub fn held_last(t: &[u8], i: usize) -> u64
     requires { ⌜ i < length (viewTable (now t) .held) ⌝ }
     ensures { λ r. ⌜ r ≡ lastHeard (nthHeld (viewTable (now (t .entry))) i) ⌝ }
 {
-    held::at::last_at(&t[20836..25189], i)
+    held::at::last_at(&t[HELD..HELD_END], i)
 }
 
 // Whether an answer of this node installed it.
@@ -97,7 +99,7 @@ pub fn held_answered(t: &[u8], i: usize) -> bool
     requires { ⌜ i < length (viewTable (now t) .held) ⌝ }
     ensures { λ r. ⌜ r ≡ is (nthHeld (viewTable (now (t .entry))) i .setup) ⌝ }
 {
-    held::at::answered_at(&t[20836..25189], i)
+    held::at::answered_at(&t[HELD..HELD_END], i)
 }
 
 // The digest of the msg1 that was answered; zeros if none was.
@@ -106,7 +108,7 @@ pub fn held_setup(t: &[u8], i: usize) -> Digest
     requires { ⌜ i < length (viewTable (now t) .held) ⌝ }
     ensures { λ r. ⌜ r .0 ≡ setupOf (nthHeld (viewTable (now (t .entry))) i) ⌝ }
 {
-    held::at::setup_at(&t[20836..25189], i)
+    held::at::setup_at(&t[HELD..HELD_END], i)
 }
 
 // Whether the current pair is p.
@@ -116,7 +118,7 @@ pub fn current_is(t: &[u8], i: usize, p: Pair) -> bool
     requires { ⌜ FitPair p ⌝ }
     ensures { λ r. ⌜ r ≡ samePair (viewPair p) (nthHeld (viewTable (now (t .entry))) i .current) ⌝ }
 {
-    held::at::current_is(&t[20836..25189], i, p)
+    held::at::current_is(&t[HELD..HELD_END], i, p)
 }
 
 // A peer that is not held yet.
@@ -126,7 +128,7 @@ pub fn insert_held(t: &mut [u8], h: Held)
     requires { ⌜ length (viewTable (now t) .held) < 32 ⌝ }
     ensures { λ r. ⌜ Told (now (t .exit)) (settle.withHeld (insert settle.earlierHeld (viewRec h) (viewTable (now (t .entry)) .held)) (viewTable (now (t .entry)))) ⌝ }
 {
-    held::map::insert_held(&mut t[20836..25189], h);
+    held::map::insert_held(&mut t[HELD..HELD_END], h);
 }
 
 // A peer goes, if it is held.
@@ -134,7 +136,7 @@ pub fn drop_held(t: &mut [u8], peer: NodeAddr)
     requires { ⌜ FitTable (now t) ⌝ }
     ensures { λ r. ⌜ Told (now (t .exit)) (settle.withHeld (without (settle.named (peer .0)) (viewTable (now (t .entry)) .held)) (viewTable (now (t .entry)))) ⌝ }
 {
-    held::map::drop_held(&mut t[20836..25189], peer);
+    held::map::drop_held(&mut t[HELD..HELD_END], peer);
 }
 
 // The i-th held peer restarted: another epoch.
@@ -143,7 +145,7 @@ pub fn restart_at(t: &mut [u8], i: usize, epoch: u64)
     requires { ⌜ i < length (viewTable (now t) .held) ⌝ }
     ensures { λ r. ⌜ Told (now (t .exit)) (settle.withHeld (set (viewTable (now (t .entry)) .held) i (settle.withEpoch epoch (nthHeld (viewTable (now (t .entry))) i))) (viewTable (now (t .entry)))) ⌝ }
 {
-    held::restarted::set_epoch(&mut t[20836..25189], i, epoch);
+    held::restarted::set_epoch(&mut t[HELD..HELD_END], i, epoch);
 }
 
 // A frame of the i-th held peer was heard, from a pair that stands in a record. Whether the pair was the current one already.
@@ -154,7 +156,7 @@ pub fn hear_at(t: &mut [u8], i: usize, clock: u64, rec: &[u8], from: usize) -> b
     ensures { λ r. ⌜ Told (now (t .exit)) (settle.withHeld (set (viewTable (now (t .entry)) .held) i (settle.heardFrom clock (pairHere (drop from (now (rec .entry)))) (nthHeld (viewTable (now (t .entry))) i))) (viewTable (now (t .entry)))) ⌝ }
     ensures { λ r. ⌜ r ≡ samePair (pairHere (drop from (now (rec .entry)))) (nthHeld (viewTable (now (t .entry))) i .current) ⌝ }
 {
-    held::heard::hear_at(&mut t[20836..25189], i, clock, rec, from)
+    held::heard::hear_at(&mut t[HELD..HELD_END], i, clock, rec, from)
 }
 
 // A peer moves onto another link.
@@ -163,5 +165,5 @@ pub fn move_peer(t: &mut [u8], peer: NodeAddr, link: LinkNo, from: Pair)
     requires { ⌜ FitPair from ⌝ }
     ensures { λ r. ⌜ Told (now (t .exit)) (settle.withHeld (alter (settle.named (peer .0)) (settle.movedTo (link .0) (viewPair from)) (viewTable (now (t .entry)) .held)) (viewTable (now (t .entry)))) ⌝ }
 {
-    held::moved::move_peer(&mut t[20836..25189], peer, link, from);
+    held::moved::move_peer(&mut t[HELD..HELD_END], peer, link, from);
 }

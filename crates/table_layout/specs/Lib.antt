@@ -1,3 +1,4 @@
+pub mod Layout
 pub mod View
 pub mod Told
 pub mod Same

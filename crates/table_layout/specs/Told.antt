@@ -26,17 +26,23 @@ use Rattle.held.specs.View.{heldOf, viewHeld, FitHeld, heldCount}
 use Rattle.gates_types.specs.View.{FitParams}
 use Rattle.gates.specs.View.{entryOf, viewGates, FitGates, gateCount}
 use Rattle.gates.specs.Order.{Room}
+use Rattle.params.specs.Layout.{headLen}
+use Rattle.links_entry.specs.Layout.{linksLen}
+use Rattle.legs_entry.specs.Layout.{legWidth, legsLen}
+use Rattle.held.specs.Layout.{heldLen}
+use Rattle.gates_entry.specs.Layout.{gatesLen}
+use Rattle.table_layout.specs.Layout.{atGates, atHead, atHeld, atLegs, atLinks, tableLen}
 use Rattle.table_layout.specs.View.{headIn, linksIn, legsIn, heldIn, gatesIn, viewTable, FitTable, Told, withHead, withNext}
 
 -- a part ends within the table
-pub part-end : {t : Bytes} {e : ℕ} → FitTable t → e ≤ 45478 → e ≤ length t
+pub part-end : {t : Bytes} {e : ℕ} → FitTable t → e ≤ tableLen → e ≤ length t
 part-end {e = e} f h = subst (λ (n : ℕ). e ≤ n) (sym (f .size)) h
 
 -- ---- a table by its parts
 abbrev tableFrom : Bytes → Bytes → Bytes → Bytes → Bytes → Table
 tableFrom a b c d e = record { me = viewMe a; params = paramsOf a; next = viewNext a; links = viewLinks b; legs = viewLegs c; held = viewHeld d; gates = viewGates e }
 
-by-parts : {u a b c d e : Bytes} → length u ≡ 45478 → headIn u ≡ a → linksIn u ≡ b → legsIn u ≡ c → heldIn u ≡ d → gatesIn u ≡ e
+by-parts : {u a b c d e : Bytes} → length u ≡ tableLen → headIn u ≡ a → linksIn u ≡ b → legsIn u ≡ c → heldIn u ≡ d → gatesIn u ≡ e
     → FitHead a → FitLinks b → FitLegs c → FitHeld d → FitGates e → Told u (tableFrom a b c d e)
 unfolding viewTable
 by-parts {u} {a} {b} {c} {d} {e} z ha hb hc hd he fa fb fc fd fe = record {
@@ -51,69 +57,69 @@ by-parts {u} {a} {b} {c} {d} {e} z ha hb hc hd he fa fb fc fd fe = record {
 
 -- ---- a part put back
 module _ {t l : Bytes} (f : FitTable t) where
-  put-head : FitHead l → Told (take 0 t ++ (l ++ drop 98 (drop 0 t))) (withHead (viewMe l) (paramsOf l) (viewNext l) (viewTable t))
+  put-head : FitHead l → Told (take atHead t ++ (l ++ drop headLen (drop atHead t))) (withHead (viewMe l) (paramsOf l) (viewNext l) (viewTable t))
   unfolding viewTable
   put-head k =
-      let h : 0 + 98 ≤ length t = part-end f (lit≤ tt) in
+      let h : atHead + headLen ≤ length t = part-end f (lit≤ tt) in
       by-parts
-      (put-length 0 98 t l (k .size) h ∙ f .size)
-      (put-here 0 98 t l (k .size) h)
-      (put-after 0 98 t l (k .size) h 98 9505 (lit≤ tt))
-      (put-after 0 98 t l (k .size) h 9603 11233 (lit≤ tt))
-      (put-after 0 98 t l (k .size) h 20836 4353 (lit≤ tt))
-      (put-after 0 98 t l (k .size) h 25189 20289 (lit≤ tt))
+      (put-length atHead headLen t l (k .size) h ∙ f .size)
+      (put-here atHead headLen t l (k .size) h)
+      (put-after atHead headLen t l (k .size) h atLinks linksLen (lit≤ tt))
+      (put-after atHead headLen t l (k .size) h atLegs legsLen (lit≤ tt))
+      (put-after atHead headLen t l (k .size) h atHeld heldLen (lit≤ tt))
+      (put-after atHead headLen t l (k .size) h atGates gatesLen (lit≤ tt))
       k (f .links) (f .legs) (f .held) (f .gates)
 
-  put-links : FitLinks l → Told (take 98 t ++ (l ++ drop 9505 (drop 98 t))) (withLinks (viewLinks l) (viewTable t))
+  put-links : FitLinks l → Told (take atLinks t ++ (l ++ drop linksLen (drop atLinks t))) (withLinks (viewLinks l) (viewTable t))
   unfolding viewTable
   put-links k =
-      let h : 98 + 9505 ≤ length t = part-end f (lit≤ tt) in
+      let h : atLinks + linksLen ≤ length t = part-end f (lit≤ tt) in
       by-parts
-      (put-length 98 9505 t l (k .size) h ∙ f .size)
-      (put-before 98 9505 t l (k .size) h 0 98 (lit≤ tt))
-      (put-here 98 9505 t l (k .size) h)
-      (put-after 98 9505 t l (k .size) h 9603 11233 (lit≤ tt))
-      (put-after 98 9505 t l (k .size) h 20836 4353 (lit≤ tt))
-      (put-after 98 9505 t l (k .size) h 25189 20289 (lit≤ tt))
+      (put-length atLinks linksLen t l (k .size) h ∙ f .size)
+      (put-before atLinks linksLen t l (k .size) h atHead headLen (lit≤ tt))
+      (put-here atLinks linksLen t l (k .size) h)
+      (put-after atLinks linksLen t l (k .size) h atLegs legsLen (lit≤ tt))
+      (put-after atLinks linksLen t l (k .size) h atHeld heldLen (lit≤ tt))
+      (put-after atLinks linksLen t l (k .size) h atGates gatesLen (lit≤ tt))
       (f .head) k (f .legs) (f .held) (f .gates)
 
-  put-legs : FitLegs l → Told (take 9603 t ++ (l ++ drop 11233 (drop 9603 t))) (withLegs (viewLegs l) (viewTable t))
+  put-legs : FitLegs l → Told (take atLegs t ++ (l ++ drop legsLen (drop atLegs t))) (withLegs (viewLegs l) (viewTable t))
   unfolding viewTable
   put-legs k =
-      let h : 9603 + 11233 ≤ length t = part-end f (lit≤ tt) in
+      let h : atLegs + legsLen ≤ length t = part-end f (lit≤ tt) in
       by-parts
-      (put-length 9603 11233 t l (k .size) h ∙ f .size)
-      (put-before 9603 11233 t l (k .size) h 0 98 (lit≤ tt))
-      (put-before 9603 11233 t l (k .size) h 98 9505 (lit≤ tt))
-      (put-here 9603 11233 t l (k .size) h)
-      (put-after 9603 11233 t l (k .size) h 20836 4353 (lit≤ tt))
-      (put-after 9603 11233 t l (k .size) h 25189 20289 (lit≤ tt))
+      (put-length atLegs legsLen t l (k .size) h ∙ f .size)
+      (put-before atLegs legsLen t l (k .size) h atHead headLen (lit≤ tt))
+      (put-before atLegs legsLen t l (k .size) h atLinks linksLen (lit≤ tt))
+      (put-here atLegs legsLen t l (k .size) h)
+      (put-after atLegs legsLen t l (k .size) h atHeld heldLen (lit≤ tt))
+      (put-after atLegs legsLen t l (k .size) h atGates gatesLen (lit≤ tt))
       (f .head) (f .links) k (f .held) (f .gates)
 
-  put-held : FitHeld l → Told (take 20836 t ++ (l ++ drop 4353 (drop 20836 t))) (withHeld (viewHeld l) (viewTable t))
+  put-held : FitHeld l → Told (take atHeld t ++ (l ++ drop heldLen (drop atHeld t))) (withHeld (viewHeld l) (viewTable t))
   unfolding viewTable
   put-held k =
-      let h : 20836 + 4353 ≤ length t = part-end f (lit≤ tt) in
+      let h : atHeld + heldLen ≤ length t = part-end f (lit≤ tt) in
       by-parts
-      (put-length 20836 4353 t l (k .size) h ∙ f .size)
-      (put-before 20836 4353 t l (k .size) h 0 98 (lit≤ tt))
-      (put-before 20836 4353 t l (k .size) h 98 9505 (lit≤ tt))
-      (put-before 20836 4353 t l (k .size) h 9603 11233 (lit≤ tt))
-      (put-here 20836 4353 t l (k .size) h)
-      (put-after 20836 4353 t l (k .size) h 25189 20289 (lit≤ tt))
+      (put-length atHeld heldLen t l (k .size) h ∙ f .size)
+      (put-before atHeld heldLen t l (k .size) h atHead headLen (lit≤ tt))
+      (put-before atHeld heldLen t l (k .size) h atLinks linksLen (lit≤ tt))
+      (put-before atHeld heldLen t l (k .size) h atLegs legsLen (lit≤ tt))
+      (put-here atHeld heldLen t l (k .size) h)
+      (put-after atHeld heldLen t l (k .size) h atGates gatesLen (lit≤ tt))
       (f .head) (f .links) (f .legs) k (f .gates)
 
-  put-gates : FitGates l → Told (take 25189 t ++ (l ++ drop 20289 (drop 25189 t))) (withGates (viewGates l) (viewTable t))
+  put-gates : FitGates l → Told (take atGates t ++ (l ++ drop gatesLen (drop atGates t))) (withGates (viewGates l) (viewTable t))
   unfolding viewTable
   put-gates k =
-      let h : 25189 + 20289 ≤ length t = part-end f (lit≤ tt) in
+      let h : atGates + gatesLen ≤ length t = part-end f (lit≤ tt) in
       by-parts
-      (put-length 25189 20289 t l (k .size) h ∙ f .size)
-      (put-before 25189 20289 t l (k .size) h 0 98 (lit≤ tt))
-      (put-before 25189 20289 t l (k .size) h 98 9505 (lit≤ tt))
-      (put-before 25189 20289 t l (k .size) h 9603 11233 (lit≤ tt))
-      (put-before 25189 20289 t l (k .size) h 20836 4353 (lit≤ tt))
-      (put-here 25189 20289 t l (k .size) h)
+      (put-length atGates gatesLen t l (k .size) h ∙ f .size)
+      (put-before atGates gatesLen t l (k .size) h atHead headLen (lit≤ tt))
+      (put-before atGates gatesLen t l (k .size) h atLinks linksLen (lit≤ tt))
+      (put-before atGates gatesLen t l (k .size) h atLegs legsLen (lit≤ tt))
+      (put-before atGates gatesLen t l (k .size) h atHeld heldLen (lit≤ tt))
+      (put-here atGates gatesLen t l (k .size) h)
       (f .head) (f .links) (f .legs) (f .held) k
 
 -- ---- steps in a row, and the same table by another name
@@ -127,23 +133,23 @@ pub told-then : (g : Table → Table) {t u : Bytes} {x : Table} → Told t x →
 told-then g a b = record { fit = b .fit; shows = b .shows ∙ ap g (a .shows) }
 
 -- ---- each part with what it shows
-pub told-head : {t l who : Bytes} {c : Params} {n : ℕ} → FitTable t → FitHead l → Shows l who c n → Told (take 0 t ++ (l ++ drop 98 (drop 0 t))) (withHead who c n (viewTable t))
+pub told-head : {t l who : Bytes} {c : Params} {n : ℕ} → FitTable t → FitHead l → Shows l who c n → Told (take atHead t ++ (l ++ drop headLen (drop atHead t))) (withHead who c n (viewTable t))
 told-head f k e = told-is (put-head f k) (rw (e .me, e .params, e .next))
 
-pub told-next : {t l : Bytes} {n : ℕ} → FitTable t → FitHead l → Shows l (viewMe (headIn t)) (paramsOf (headIn t)) n → Told (take 0 t ++ (l ++ drop 98 (drop 0 t))) (withNext n (viewTable t))
+pub told-next : {t l : Bytes} {n : ℕ} → FitTable t → FitHead l → Shows l (viewMe (headIn t)) (paramsOf (headIn t)) n → Told (take atHead t ++ (l ++ drop headLen (drop atHead t))) (withNext n (viewTable t))
 unfolding viewTable
 told-next f k e = told-head f k e
 
-pub told-links : {t l : Bytes} {x : List LinkRec} → FitTable t → FitLinks l → viewLinks l ≡ x → Told (take 98 t ++ (l ++ drop 9505 (drop 98 t))) (withLinks x (viewTable t))
+pub told-links : {t l : Bytes} {x : List LinkRec} → FitTable t → FitLinks l → viewLinks l ≡ x → Told (take atLinks t ++ (l ++ drop linksLen (drop atLinks t))) (withLinks x (viewTable t))
 told-links {t} f k e = told-is (put-links f k) (ap (λ (x : List LinkRec). withLinks x (viewTable t)) e)
 
-pub told-legs : {t l : Bytes} {x : List Leg} → FitTable t → FitLegs l → viewLegs l ≡ x → Told (take 9603 t ++ (l ++ drop 11233 (drop 9603 t))) (withLegs x (viewTable t))
+pub told-legs : {t l : Bytes} {x : List Leg} → FitTable t → FitLegs l → viewLegs l ≡ x → Told (take atLegs t ++ (l ++ drop legsLen (drop atLegs t))) (withLegs x (viewTable t))
 told-legs {t} f k e = told-is (put-legs f k) (ap (λ (x : List Leg). withLegs x (viewTable t)) e)
 
-pub told-held : {t l : Bytes} {x : List Held} → FitTable t → FitHeld l → viewHeld l ≡ x → Told (take 20836 t ++ (l ++ drop 4353 (drop 20836 t))) (withHeld x (viewTable t))
+pub told-held : {t l : Bytes} {x : List Held} → FitTable t → FitHeld l → viewHeld l ≡ x → Told (take atHeld t ++ (l ++ drop heldLen (drop atHeld t))) (withHeld x (viewTable t))
 told-held {t} f k e = told-is (put-held f k) (ap (λ (x : List Held). withHeld x (viewTable t)) e)
 
-pub told-gates : {t l : Bytes} {x : List Memory} → FitTable t → FitGates l → viewGates l ≡ x → Told (take 25189 t ++ (l ++ drop 20289 (drop 25189 t))) (withGates x (viewTable t))
+pub told-gates : {t l : Bytes} {x : List Memory} → FitTable t → FitGates l → viewGates l ≡ x → Told (take atGates t ++ (l ++ drop gatesLen (drop atGates t))) (withGates x (viewTable t))
 told-gates {t} f k e = told-is (put-gates f k) (ap (λ (x : List Memory). withGates x (viewTable t)) e)
 
 -- ---- a new link with its leg: three steps
@@ -196,13 +202,13 @@ module _ {t : Bytes} (f : FitTable t) {n : ℕ} where
 pub next-fits : {n k : ℕ} → n ≡ k → k + 1 < 2 ^ 64 → Fits w64 (n + 1)
 next-fits e h = record { fits = subst (λ (m : ℕ). m + 1 < 2 ^ 64) (sym e) h }
 
-pub entry-fits : (i : ℕ) → i < 32 → Fits w64 (i * 351)
+pub entry-fits : (i : ℕ) → i < 32 → Fits w64 (i * legWidth)
 entry-fits i h = record { fits = omega arith }
 
-pub cell-fits : (i o : ℕ) → i < 32 → o ≤ 351 → Fits w64 (i * 351 + o)
+pub cell-fits : (i o : ℕ) → i < 32 → o ≤ legWidth → Fits w64 (i * legWidth + o)
 cell-fits i o h k = record { fits = omega arith }
 
-pub place-fits : (i o : ℕ) → i < 32 → o ≤ 351 → Fits w64 (9603 + (i * 351 + o))
+pub place-fits : (i o : ℕ) → i < 32 → o ≤ legWidth → Fits w64 (atLegs + (i * legWidth + o))
 place-fits i o h k = record { fits = omega arith }
 
 -- settings within range
@@ -223,15 +229,15 @@ unfolding viewTable
 gates-room p f r = record { room = λ e. subst (λ (n : ℕ). n < 32) (entries-count entryOf (f .gates)) (r .room e) }
 
 -- what stands in the legs' part stands in the table
-pub stands-whole : {bs : Bytes} {at n : ℕ} {t : Bytes} → FitTable t → Stands bs at n (legsIn t) → Stands bs (9603 + at) n t
+pub stands-whole : {bs : Bytes} {at n : ℕ} {t : Bytes} → FitTable t → Stands bs at n (legsIn t) → Stands bs (atLegs + at) n t
 stands-whole {at = at} {n} {t} f s =
     let z = f .size in
-    let l : length (legsIn t) ≡ 11233 = length-take-le 11233 (drop 9603 t) (rw length-drop (omega arith)) in
+    let l : length (legsIn t) ≡ legsLen = length-take-le legsLen (drop atLegs t) (rw length-drop (omega arith)) in
     let r : at + n ≤ length (legsIn t) = s .room in
-    let h : at + n ≤ 11233 = omega arith in
+    let h : at + n ≤ legsLen = omega arith in
     record {
       small = s .small;
       room = omega arith;
       size = s .size;
-      is = ap (λ (u : Bytes). take n u) (sym (drop-drop at 9603 t)) ∙ sym (part-of at n 11233 (drop 9603 t) h) ∙ s .is;
+      is = ap (λ (u : Bytes). take n u) (sym (drop-drop at atLegs t)) ∙ sym (part-of at n legsLen (drop atLegs t) h) ∙ s .is;
     }

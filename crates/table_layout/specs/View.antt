@@ -10,22 +10,28 @@ use Rattle.links.specs.View as links
 use Rattle.legs.specs.View as legs
 use Rattle.held.specs.View as held
 use Rattle.gates.specs.View as gates
+use Rattle.params.specs.Layout.{headLen}
+use Rattle.links_entry.specs.Layout.{linksLen}
+use Rattle.legs_entry.specs.Layout.{legsLen}
+use Rattle.held.specs.Layout.{heldLen}
+use Rattle.gates_entry.specs.Layout.{gatesLen}
+use Rattle.table_layout.specs.Layout.{atGates, atHeld, atLegs, atLinks, tableLen}
 
 -- ---- the parts
 abbrev pub headIn : Bytes → Bytes
-headIn t = take 98 t
+headIn t = take headLen t
 
 abbrev pub linksIn : Bytes → Bytes
-linksIn t = take 9505 (drop 98 t)
+linksIn t = take linksLen (drop atLinks t)
 
 abbrev pub legsIn : Bytes → Bytes
-legsIn t = take 11233 (drop 9603 t)
+legsIn t = take legsLen (drop atLegs t)
 
 abbrev pub heldIn : Bytes → Bytes
-heldIn t = take 4353 (drop 20836 t)
+heldIn t = take heldLen (drop atHeld t)
 
 abbrev pub gatesIn : Bytes → Bytes
-gatesIn t = take 20289 (drop 25189 t)
+gatesIn t = take gatesLen (drop atGates t)
 
 -- ---- the whole
 unfoldable pub viewTable : Bytes → Table
@@ -40,7 +46,7 @@ viewTable t = record {
 }
 
 pub record FitTable (t : Bytes) : Type 0 where
-  pub size : length t ≡ 45478
+  pub size : length t ≡ tableLen
   pub head : FitHead (headIn t)
   pub links : links.FitLinks (linksIn t)
   pub legs : legs.FitLegs (legsIn t)

@@ -1,4 +1,6 @@
 // The node's own address, the settings and the next link number.
+use crate::layout::HEAD;
+use crate::layout::HEAD_END;
 use node_addr::NodeAddr;
 use params::Params;
 use params::head::get_next;
@@ -14,21 +16,21 @@ pub fn next_no(t: &[u8]) -> u64
     requires { ⌜ FitTable (now t) ⌝ }
     ensures { λ r. ⌜ r ≡ viewTable (now (t .entry)) .next ⌝ }
 {
-    get_next(&t[0..98])
+    get_next(&t[HEAD..HEAD_END])
 }
 
 pub fn me_of(t: &[u8]) -> NodeAddr
     requires { ⌜ FitTable (now t) ⌝ }
     ensures { λ r. ⌜ r .0 ≡ viewTable (now (t .entry)) .me ⌝ }
 {
-    load_me(&t[0..98])
+    load_me(&t[HEAD..HEAD_END])
 }
 
 pub fn params_of(t: &[u8]) -> Params
     requires { ⌜ FitTable (now t) ⌝ }
     ensures { λ r. ⌜ viewParams r ≡ viewTable (now (t .entry)) .params ⌝ }
 {
-    load_params(&t[0..98])
+    load_params(&t[HEAD..HEAD_END])
 }
 
 // One setting: how many answers may be pending.
@@ -36,5 +38,5 @@ pub fn pending_of(t: &[u8]) -> u64
     requires { ⌜ FitTable (now t) ⌝ }
     ensures { λ r. ⌜ r ≡ viewTable (now (t .entry)) .params .pending ⌝ }
 {
-    get_pending(&t[0..98])
+    get_pending(&t[HEAD..HEAD_END])
 }

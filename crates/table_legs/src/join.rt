@@ -7,6 +7,12 @@ use node_addr::LinkNo;
 use node_addr::Pair;
 use params::head::put_next;
 use table_layout::head::next_no;
+use table_layout::layout::HEAD;
+use table_layout::layout::HEAD_END;
+use table_layout::layout::LEGS;
+use table_layout::layout::LEGS_END;
+use table_layout::layout::LINKS;
+use table_layout::layout::LINKS_END;
 ghost use mathlib.Core.List.{[], _∷_, _++_};
 ghost use Prim.Native.Nat.{_+_, _<_, _^_};
 ghost use lib.ListN.{length};
@@ -24,7 +30,7 @@ fn add_link(t: &mut [u8], n: LinkNo, p: Pair, d: Dir)
     requires { ⌜ FitPair p ⌝ }
     ensures { λ r. ⌜ Told (now (t .exit)) (withLinks (viewTable (now (t .entry)) .links ++ (opened (n .0) (viewPair p) (viewDir d) ∷ [])) (viewTable (now (t .entry)))) ⌝ }
 {
-    open_link(&mut t[98..9603], n, p, d);
+    open_link(&mut t[LINKS..LINKS_END], n, p, d);
 }
 
 // A leg at the end.
@@ -34,7 +40,7 @@ fn add_leg(t: &mut [u8], l: Leg)
     requires { ⌜ length (viewTable (now t) .legs) < 32 ⌝ }
     ensures { λ r. ⌜ Told (now (t .exit)) (withLegs (viewTable (now (t .entry)) .legs ++ (viewLeg l ∷ [])) (viewTable (now (t .entry)))) ⌝ }
 {
-    push_leg(&mut t[9603..20836], l);
+    push_leg(&mut t[LEGS..LEGS_END], l);
 }
 
 // The number that the next link gets.
@@ -42,7 +48,7 @@ fn set_next(t: &mut [u8], n: u64)
     requires { ⌜ FitTable (now t) ⌝ }
     ensures { λ r. ⌜ Told (now (t .exit)) (withNext n (viewTable (now (t .entry)))) ⌝ }
 {
-    put_next(&mut t[0..98], n);
+    put_next(&mut t[HEAD..HEAD_END], n);
 }
 
 // The next link, set up at the pair, with its leg; the number is used up.

@@ -22,20 +22,26 @@ use Rattle.held.specs.Same as held
 use Rattle.gates.specs.View.{viewGates, FitGates}
 use Rattle.gates.specs.Same as gates
 use Rattle.table_layout.specs.View.{headIn, linksIn, legsIn, heldIn, gatesIn, viewTable, FitTable, Told}
+use Rattle.params.specs.Layout.{headLen}
+use Rattle.links_entry.specs.Layout.{linksLen}
+use Rattle.legs_entry.specs.Layout.{legsLen}
+use Rattle.held.specs.Layout.{heldLen}
+use Rattle.gates_entry.specs.Layout.{gatesLen}
+use Rattle.table_layout.specs.Layout.{atGates, atHead, atHeld, atLegs, atLinks, tableLen}
 
 -- bytes of a table's length, each 0
 pub record Blank (t : Bytes) : Type 0 where
-  pub size : length t ≡ 45478
+  pub size : length t ≡ tableLen
   pub zeros : t ≡ replicate (length t) 0
 
-pub blank-cleared : {t u : Bytes} {n r : ℕ} → length t ≡ 45478 → n ≡ length t → Wrote t 0 n (replicate n 0) u r → Blank u
+pub blank-cleared : {t u : Bytes} {n r : ℕ} → length t ≡ tableLen → n ≡ length t → Wrote t 0 n (replicate n 0) u r → Blank u
 unfolding splice
 blank-cleared {t} {u} {n} z e w = record { size = long; zeros = all ∙ ap (λ (k : ℕ). replicate k 0) (e ∙ z ∙ sym long) }
   where
     all : u ≡ replicate n 0
     all = w .is ∙ ap (λ (s : Bytes). replicate n 0 ++ s) (drop-of-length-le t {i = 0 + length (replicate n 0)} (omega (arith, length-replicate {A = ℕ} n 0))) ∙ append-nil (replicate n 0)
 
-    long : length u ≡ 45478
+    long : length u ≡ tableLen
     long = ap length all ∙ length-replicate {A = ℕ} n 0 ∙ e ∙ z
 
 -- ---- a part of zeros
@@ -59,25 +65,25 @@ head-shows x y z = record { size = z .size; me = z .me ∙ y .me; params = z .pa
 
 module _ {u l : Bytes} (b : Blank u) (k : FitHead l) where
   abbrev whole : Bytes
-  whole = take 0 u ++ (l ++ drop 98 (drop 0 u))
+  whole = take atHead u ++ (l ++ drop headLen (drop atHead u))
 
-  within : (n : ℕ) → n ≤ 45478 → n ≤ length u
+  within : (n : ℕ) → n ≤ tableLen → n ≤ length u
   within n h = omega (arith, b .size)
 
-  zeros-at : (o w : ℕ) → 98 ≤ o → o + w ≤ 45478 → take w (drop o whole) ≡ replicate w 0
-  zeros-at o w g h = put-after 0 98 u l (k .size) (within 98 (lit≤ tt)) o w g ∙ part-zeros o w (b .zeros) (within (o + w) h)
+  zeros-at : (o w : ℕ) → headLen ≤ o → o + w ≤ tableLen → take w (drop o whole) ≡ replicate w 0
+  zeros-at o w g h = put-after atHead headLen u l (k .size) (within headLen (lit≤ tt)) o w g ∙ part-zeros o w (b .zeros) (within (o + w) h)
 
   head-is : headIn whole ≡ l
-  head-is = put-here 0 98 u l (k .size) (within 98 (lit≤ tt))
+  head-is = put-here atHead headLen u l (k .size) (within headLen (lit≤ tt))
 
   new-fit : FitTable whole
   new-fit = record {
-    size = put-length 0 98 u l (k .size) (within 98 (lit≤ tt)) ∙ b .size;
+    size = put-length atHead headLen u l (k .size) (within headLen (lit≤ tt)) ∙ b .size;
     head = subst FitHead (sym head-is) k;
-    links = subst FitLinks (sym (zeros-at 98 9505 (lit≤ tt) (lit≤ tt))) links-new;
-    legs = subst FitLegs (sym (zeros-at 9603 11233 (lit≤ tt) (lit≤ tt))) legs.fit-new;
-    held = subst FitHeld (sym (zeros-at 20836 4353 (lit≤ tt) (lit≤ tt))) held.fit-new;
-    gates = subst FitGates (sym (zeros-at 25189 20289 (lit≤ tt) (lit≤ tt))) gates.fit-new;
+    links = subst FitLinks (sym (zeros-at atLinks linksLen (lit≤ tt) (lit≤ tt))) links-new;
+    legs = subst FitLegs (sym (zeros-at atLegs legsLen (lit≤ tt) (lit≤ tt))) legs.fit-new;
+    held = subst FitHeld (sym (zeros-at atHeld heldLen (lit≤ tt) (lit≤ tt))) held.fit-new;
+    gates = subst FitGates (sym (zeros-at atGates gatesLen (lit≤ tt) (lit≤ tt))) gates.fit-new;
   }
 
   pub new-told : {who : Bytes} {c : Params} {n : ℕ} → Shows l who c n → Told whole (newTable who n c)
@@ -86,8 +92,8 @@ module _ {u l : Bytes} (b : Blank u) (k : FitHead l) where
       let m : viewMe (headIn whole) ≡ who = ap viewMe head-is ∙ s .me in
       let p : paramsOf (headIn whole) ≡ c = ap paramsOf head-is ∙ s .params in
       let x : viewNext (headIn whole) ≡ n = ap viewNext head-is ∙ s .next in
-      let a : viewLinks (linksIn whole) ≡ [] = ap viewLinks (zeros-at 98 9505 (lit≤ tt) (lit≤ tt)) ∙ links-none in
-      let e : viewLegs (legsIn whole) ≡ [] = ap viewLegs (zeros-at 9603 11233 (lit≤ tt) (lit≤ tt)) ∙ legs.shows-none in
-      let h : viewHeld (heldIn whole) ≡ [] = ap viewHeld (zeros-at 20836 4353 (lit≤ tt) (lit≤ tt)) ∙ held.shows-none in
-      let g : viewGates (gatesIn whole) ≡ [] = ap viewGates (zeros-at 25189 20289 (lit≤ tt) (lit≤ tt)) ∙ gates.shows-none in
+      let a : viewLinks (linksIn whole) ≡ [] = ap viewLinks (zeros-at atLinks linksLen (lit≤ tt) (lit≤ tt)) ∙ links-none in
+      let e : viewLegs (legsIn whole) ≡ [] = ap viewLegs (zeros-at atLegs legsLen (lit≤ tt) (lit≤ tt)) ∙ legs.shows-none in
+      let h : viewHeld (heldIn whole) ≡ [] = ap viewHeld (zeros-at atHeld heldLen (lit≤ tt) (lit≤ tt)) ∙ held.shows-none in
+      let g : viewGates (gatesIn whole) ≡ [] = ap viewGates (zeros-at atGates gatesLen (lit≤ tt) (lit≤ tt)) ∙ gates.shows-none in
       record { fit = new-fit; shows = λ i. record { me = m i; params = p i; next = x i; links = a i; legs = e i; held = h i; gates = g i } }

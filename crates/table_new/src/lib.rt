@@ -5,6 +5,8 @@ use params::Params;
 use params::head::put_me;
 use params::head::put_next;
 use params::head::put_params;
+use table_layout::layout::HEAD;
+use table_layout::layout::HEAD_END;
 ghost use mathlib.Core.Path.{_≡_};
 ghost use mathlib.Core.Bool.{false};
 ghost use lib.ListN.{length};
@@ -14,10 +16,12 @@ ghost use Rattle.params.specs.View.{viewParams};
 ghost use Rattle.params.specs.Head.{FitHead, Shows};
 ghost use Rattle.table_layout.specs.View.{Told};
 ghost use Rattle.table_new.specs.New.{Blank};
+ghost use Rattle.params.specs.Layout.{headLen};
+ghost use Rattle.table_layout.specs.Layout.{tableLen};
 
 // Zeros throughout.
 fn wipe(t: &mut [u8])
-    requires { ⌜ length (now t) ≡ 45478 ⌝ }
+    requires { ⌜ length (now t) ≡ tableLen ⌝ }
     ensures { λ r. ⌜ Blank (now (t .exit)) ⌝ }
 {
     let n = t.len();
@@ -26,7 +30,7 @@ fn wipe(t: &mut [u8])
 
 // The whole head.
 fn put_head(s: &mut [u8], me: NodeAddr, first: u64, c: Params)
-    requires { ⌜ length (now s) ≡ 98 ⌝ }
+    requires { ⌜ length (now s) ≡ headLen ⌝ }
     requires { ⌜ outOfRange (viewParams c) ≡ false ⌝ }
     ensures { λ r. ⌜ FitHead (now (s .exit)) ⌝ }
     ensures { λ r. ⌜ Shows (now (s .exit)) (me .0) (viewParams c) first ⌝ }
@@ -38,10 +42,10 @@ fn put_head(s: &mut [u8], me: NodeAddr, first: u64, c: Params)
 
 // A node that holds nothing; `first` is the number of its first link.
 pub fn start(t: &mut [u8], me: NodeAddr, first: u64, c: Params)
-    requires { ⌜ length (now t) ≡ 45478 ⌝ }
+    requires { ⌜ length (now t) ≡ tableLen ⌝ }
     requires { ⌜ outOfRange (viewParams c) ≡ false ⌝ }
     ensures { λ r. ⌜ Told (now (t .exit)) (newTable (me .0) first (viewParams c)) ⌝ }
 {
     wipe(t);
-    put_head(&mut t[0..98], me, first, c);
+    put_head(&mut t[HEAD..HEAD_END], me, first, c);
 }

@@ -4,6 +4,10 @@ use node_addr::Pair;
 use table_held::current_is;
 use table_held::held_link;
 use table_layout::head::pending_of;
+use table_layout::layout::LEGS;
+use table_layout::layout::LEGS_END;
+use table_layout::layout::LINKS;
+use table_layout::layout::LINKS_END;
 use table_legs::answering;
 use table_links::find_link;
 use table_links::link_outbound;
@@ -26,7 +30,7 @@ pub fn stored(t: &[u8], rec: &[u8], from: usize, at: usize, n: usize) -> Found
     requires { ⌜ at + n ≤ length (now rec) ⌝ }
     ensures { λ r. ⌜ Yields r (viewTable (now (t .entry))) (settle.stored (pairHere (drop from (now (rec .entry)))) (take n (drop at (now (rec .entry)))) (viewTable (now (t .entry)))) ⌝ }
 {
-    legs::stored::stored(&t[98..9603], &t[9603..20836], rec, from, at, n)
+    legs::stored::stored(&t[LINKS..LINKS_END], &t[LEGS..LEGS_END], rec, from, at, n)
 }
 
 // Whether answers are at least the settings' pending.

@@ -9,6 +9,7 @@ ghost use lib.ListN.{length, take};
 ghost use Rattle.settle.specs.Contract.{Left};
 ghost use Rattle.tape.specs.Turn.{Opens, Turns};
 ghost use Rattle.tape.specs.Feed.{Into, Cut, Ran, Taped};
+ghost use Rattle.table_layout.specs.Layout.{tableLen};
 
 fn least(a: u64, b: u64) -> usize
     ensures { λ r. ⌜ r ≡ min a b ⌝ }
@@ -44,7 +45,7 @@ fn next_record(buf: &mut [u8], left: u64) -> usize
 
 // The record of n bytes that makes the table. `show`: its Done is written.
 fn first(table: &mut [u8], buf: &[u8], n: usize, out: &mut [u8], show: bool) -> u8
-    requires { ⌜ length (now table) ≡ 45478 ⌝ }
+    requires { ⌜ length (now table) ≡ tableLen ⌝ }
     requires { ⌜ n ≤ length (now buf) ⌝ }
     requires { ⌜ length (now out) ≡ 10245 ⌝ }
     ensures { λ r. ⌜ Opens (now (table .entry)) (take n (now (buf .entry))) (now (table .exit)) (now (out .exit)) r ⌝ }
@@ -104,7 +105,7 @@ fn run_calls(table: &mut [u8], buf: &mut [u8], out: &mut [u8], size: u64, show: 
 
 // A tape of at most `size` bytes from standard input, by way of a buffer for one record and one for its outputs. Whether it made a table.
 pub fn run_tape(table: &mut [u8], buf: &mut [u8], out: &mut [u8], size: u64, show: bool) -> bool
-    requires { ⌜ length (now table) ≡ 45478 ⌝ }
+    requires { ⌜ length (now table) ≡ tableLen ⌝ }
     requires { ⌜ length (now buf) ≡ 65537 ⌝ }
     requires { ⌜ length (now out) ≡ 10245 ⌝ }
     ensures { λ r. ⌜ (r ≡ true → Taped (now (table .entry)) (now (table .exit))) ⌝ }

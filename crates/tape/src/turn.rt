@@ -7,10 +7,11 @@ ghost use Prim.Native.Nat.{_≤_};
 ghost use lib.ListN.{length};
 ghost use Rattle.settle.specs.Contract.{Left};
 ghost use Rattle.tape.specs.Turn.{Opens, Turns};
+ghost use Rattle.table_layout.specs.Layout.{tableLen};
 
 // The record that makes the table; its Done stands in the first 5 bytes of the buffer.
 pub fn opening(table: &mut [u8], input: &[u8], out: &mut [u8]) -> u8
-    requires { ⌜ length (now table) ≡ 45478 ⌝ }
+    requires { ⌜ length (now table) ≡ tableLen ⌝ }
     requires { ⌜ 5 ≤ length (now out) ⌝ }
     ensures { λ r. ⌜ Opens (now (table .entry)) (now (input .entry)) (now (table .exit)) (now (out .exit)) r ⌝ }
 {

@@ -23,6 +23,7 @@ use Rattle.gates.specs.View.{viewGates, FitGates}
 use Rattle.gates.specs.Order.{Room, within-memory}
 use Rattle.gates.specs.Same.{fit-new, shows-none}
 use Rattle.test_script.specs.Chosen.{chosen}
+use Rattle.gates_entry.specs.Layout.{gatesLen}
 
 pub fit-chosen : {c : params.Params} → viewParams c ≡ chosen → FitParams c
 fit-chosen {c} e =
@@ -36,7 +37,7 @@ pub record Kept (s : Bytes) : Type 0 where
   pub order : Ascending earlierMemory (viewGates s)
   pub within : All (Within chosen) (viewGates s)
 
-pub kept-new : Kept (replicate 20289 0)
+pub kept-new : Kept (replicate gatesLen 0)
 kept-new = record { fit = fit-new; order = subst (Ascending earlierMemory) (sym shows-none) tt; within = subst (All (Within chosen)) (sym shows-none) tt }
 
 pub within-chosen : {s : Bytes} {c : Params} → Kept s → c ≡ chosen → All (Within c) (viewGates s)

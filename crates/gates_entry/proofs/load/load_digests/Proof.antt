@@ -5,13 +5,15 @@ use native.Mathlib.Omega.{arith}
 use lib.ListN.{take, drop}
 use Rattle.node_addr.specs.View.{blankDigest}
 use Rattle.gates_types.specs.View.{viewDigest, FitDigest, fit-blank-digest}
+use Rattle.node_addr.specs.Layout.{digestLen}
+use Rattle.gates_entry.specs.Layout.{digestCap, digestsLen}
 use Rattle.gates_entry.specs.Rows.{Fetching, fetching-start, fetching-turn, fetching-end}
 use Rattle.gates_entry.specs.Entry.{digestIn, digest-here, row-count}
 use Rattle.gates_entry.proofs.load.load_digests.Statement.{statement}
 use Rattle.gates_entry.proofs.load.load_digests.Tie as tie
 
 abbrev Inv-loop : tie.InvT-loop
-Inv-loop s at n out₀ i₀ out i = Fetching FitDigest digestIn 32 8 blankDigest (take 257 (drop at s)) n i (out .places)
+Inv-loop s at n out₀ i₀ out i = Fetching FitDigest digestIn digestLen digestCap blankDigest (take digestsLen (drop at s)) n i (out .places)
 
 abbrev μ-loop : tie.MeasureT-loop
 μ-loop s at n out₀ i₀ out i = n - i
@@ -19,7 +21,7 @@ abbrev μ-loop : tie.MeasureT-loop
 loop-holds : tie.Need-loop-holds Inv-loop μ-loop
 loop-holds c =
     let d = c .before .before .before in
-    rw (c .no-digests .ensures) (fetching-start FitDigest digestIn 32 8 blankDigest fit-blank-digest (d .pre .1) (c .before .count .ensures ∙ sym (row-count 256 (d .args .s .now) (d .args .at))))
+    rw (c .no-digests .ensures) (fetching-start FitDigest digestIn digestLen digestCap blankDigest fit-blank-digest (d .pre .1) (c .before .count .ensures ∙ sym (row-count 256 (d .args .s .now) (d .args .at))))
 
 loop-again : tie.Need-loop-again Inv-loop μ-loop
 loop-again c =

@@ -4,13 +4,14 @@ use borrow.Author.Needs.{needs}
 use native.Mathlib.Omega.{arith}
 use lib.ListN.{take, drop}
 use Rattle.gates_types.specs.View.{viewReplay, FitReplay, blankReplay, fit-blank-replay}
+use Rattle.gates_entry.specs.Layout.{atReplayCount, replayCap, replayWidth, replaysLen}
 use Rattle.gates_entry.specs.Rows.{Fetching, fetching-start, fetching-turn, fetching-end}
 use Rattle.gates_entry.specs.Entry.{replayIn, replay-here, row-count}
 use Rattle.gates_entry.proofs.load.load_replays.Statement.{statement}
 use Rattle.gates_entry.proofs.load.load_replays.Tie as tie
 
 abbrev Inv-loop : tie.InvT-loop
-Inv-loop s at n out₀ i₀ out i = Fetching FitReplay replayIn 40 8 blankReplay (take 321 (drop at s)) n i (out .places)
+Inv-loop s at n out₀ i₀ out i = Fetching FitReplay replayIn replayWidth replayCap blankReplay (take replaysLen (drop at s)) n i (out .places)
 
 abbrev μ-loop : tie.MeasureT-loop
 μ-loop s at n out₀ i₀ out i = n - i
@@ -18,7 +19,7 @@ abbrev μ-loop : tie.MeasureT-loop
 loop-holds : tie.Need-loop-holds Inv-loop μ-loop
 loop-holds c =
     let d = c .before .before .before in
-    rw (c .no-replays .ensures) (fetching-start FitReplay replayIn 40 8 blankReplay fit-blank-replay (d .pre .1) (c .before .count .ensures ∙ sym (row-count 320 (d .args .s .now) (d .args .at))))
+    rw (c .no-replays .ensures) (fetching-start FitReplay replayIn replayWidth replayCap blankReplay fit-blank-replay (d .pre .1) (c .before .count .ensures ∙ sym (row-count atReplayCount (d .args .s .now) (d .args .at))))
 
 loop-again : tie.Need-loop-again Inv-loop μ-loop
 loop-again c =

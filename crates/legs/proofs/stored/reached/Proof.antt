@@ -2,6 +2,7 @@
 use native.Mathlib.Omega.{arith}
 use Prim.Native.Nat.{_+_, _-_, _*_}
 use mathlib.Core.Path.{_≡_}
+use Rattle.links_entry.specs.Layout.{atPaths, linkWidth, pathsLen}
 use Rattle.legs.specs.Addresses.{setup-released, setup-counts, path-within, path-counts}
 use Rattle.links_entry.specs.Here.{paths-fit}
 use lib.ListN.{drop}
@@ -18,12 +19,12 @@ returns-2 c = setup-counts (c .before .before .before .before .before .before .p
 
 proven-path-requires : tie.Need-proven-path-requires
 proven-path-requires c κs =
-    let e : c .before .before .before .before .args .i * 297 + 80 + 217 - (c .before .before .before .before .args .i * 297 + 80) ≡ 217 = omega arith in
+    let e : c .before .before .before .before .args .i * linkWidth + atPaths + pathsLen - (c .before .before .before .before .args .i * linkWidth + atPaths) ≡ pathsLen = omega arith in
     (rw e (paths-fit (c .before .before .before .before .pre .0) (c .before .before .before .before .pre .1 .0)), (rw e (path-within (c .before .before .before .before .pre .0) (c .before .before .before .before .pre .1 .0) (pairHere (drop (c .before .before .before .before .args .from) (c .before .before .before .before .args .rec .now))) (c .before .if1 .left) (c .before .before .before .before .pre .1 .1 .1)), search needs))
 
 returns-3 : tie.Need-returns-3
 returns-3 c =
-    let e : c .before .before .before .before .before .args .i * 297 + 80 + 217 - (c .before .before .before .before .before .args .i * 297 + 80) ≡ 217 = omega arith in
+    let e : c .before .before .before .before .before .args .i * linkWidth + atPaths + pathsLen - (c .before .before .before .before .before .args .i * linkWidth + atPaths) ≡ pathsLen = omega arith in
     path-counts (c .before .before .before .before .before .pre .0) (c .before .before .before .before .before .pre .1 .0) (pairHere (drop (c .before .before .before .before .before .args .from) (c .before .before .before .before .before .args .rec .now))) (c .before .before .if1 .left) (c .before .before .before .before .before .pre .1 .1 .1) (rw e at (c .proven-path .ensures))
 
 pub reached-spec : {M : Type 1} → statement M

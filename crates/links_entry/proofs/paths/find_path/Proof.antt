@@ -2,6 +2,7 @@
 use Prim.Native.Nat.{_-_}
 use Rattle.lib_laws.specs.Chunk.{chunks}
 use Rattle.lib_laws.specs.Scan.{Ahead, scan, scan-end, scan-hit, scan-kept, scan-skip}
+use Rattle.links_entry.specs.Layout.{pathCap, pathWidth}
 use Rattle.links_entry.specs.Here.{path-same, pathing}
 use Rattle.links_entry.specs.View.{pathOf, viewPaths}
 use Rattle.node_addr.specs.View.{finds-no, finds-some, viewPair}
@@ -13,7 +14,7 @@ use Rattle.links_entry.proofs.paths.find_path.Statement.{statement}
 use Rattle.links_entry.proofs.paths.find_path.Tie as tie
 
 abbrev Inv-loop : tie.InvT-loop
-Inv-loop s p n j₀ j = Ahead (scan (pathAt (viewPair p)) 0 (viewPaths s)) (pathAt (viewPair p)) pathOf n (chunks 54 4 s) j
+Inv-loop s p n j₀ j = Ahead (scan (pathAt (viewPair p)) 0 (viewPaths s)) (pathAt (viewPair p)) pathOf n (chunks pathWidth pathCap s) j
 
 abbrev μ-loop : tie.MeasureT-loop
 μ-loop s p n j₀ j = n - j

@@ -1,6 +1,7 @@
 -- `links_entry::paths::proves` meets its contract.
 use Prim.Native.Nat.{_-_}
 use Rattle.lib_laws.specs.Chunk.{chunks}
+use Rattle.links_entry.specs.Layout.{pathCap, pathWidth}
 use Rattle.links_entry.specs.Asking.{Asking, ask-hit, ask-skip, ask-start, asking}
 use Rattle.links_entry.specs.View.{pathOf, viewPaths}
 use Rattle.node_addr.specs.View.{viewPair}
@@ -13,7 +14,7 @@ use Rattle.links_entry.proofs.paths.proves.Statement.{statement}
 use Rattle.links_entry.proofs.paths.proves.Tie as tie
 
 abbrev Inv-loop : tie.InvT-loop
-Inv-loop s p n j₀ j = Asking (any (provenAt (viewPair p)) (viewPaths s)) (provenAt (viewPair p)) pathOf n (chunks 54 4 s) j
+Inv-loop s p n j₀ j = Asking (any (provenAt (viewPair p)) (viewPaths s)) (provenAt (viewPair p)) pathOf n (chunks pathWidth pathCap s) j
 
 abbrev μ-loop : tie.MeasureT-loop
 μ-loop s p n j₀ j = n - j

@@ -2,6 +2,7 @@
 use Prim.Native.Nat.{_-_}
 use Rattle.lib_laws.specs.Chunk.{chunks}
 use Rattle.lib_laws.specs.Scan.{Ahead, scan, scan-end, scan-hit, scan-kept, scan-skip}
+use Rattle.links_entry.specs.Layout.{linkCap, linkWidth}
 use Rattle.links_entry.specs.Here.{key-is}
 use Rattle.links_entry.specs.View.{linkOf, viewLinks}
 use Rattle.node_addr.specs.View.{finds-no, finds-some}
@@ -14,7 +15,7 @@ use Rattle.links_entry.proofs.read.find_link.Statement.{statement}
 use Rattle.links_entry.proofs.read.find_link.Tie as tie
 
 abbrev Inv-loop : tie.InvT-loop
-Inv-loop s key len i₀ i = Ahead (scan (numbered key) 0 (viewLinks s)) (numbered key) linkOf len (chunks 297 32 s) i
+Inv-loop s key len i₀ i = Ahead (scan (numbered key) 0 (viewLinks s)) (numbered key) linkOf len (chunks linkWidth linkCap s) i
 
 abbrev μ-loop : tie.MeasureT-loop
 μ-loop s key len i₀ i = len - i

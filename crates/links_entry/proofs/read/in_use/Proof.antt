@@ -1,6 +1,7 @@
 -- `links_entry::read::in_use` meets its contract.
 use Prim.Native.Nat.{_-_}
 use Rattle.lib_laws.specs.Chunk.{chunks}
+use Rattle.links_entry.specs.Layout.{linkCap, linkWidth}
 use Rattle.links_entry.specs.Asking.{Asking, ask-hit, ask-skip, ask-start, asking}
 use Rattle.links_entry.specs.Here.{link-shown}
 use Rattle.links_entry.specs.View.{linkOf, viewLinks}
@@ -13,7 +14,7 @@ use Rattle.links_entry.proofs.read.in_use.Statement.{statement}
 use Rattle.links_entry.proofs.read.in_use.Tie as tie
 
 abbrev Inv-loop : tie.InvT-loop
-Inv-loop s p n i₀ i = Asking (inUse (viewPair p) (viewLinks s)) (uses (viewPair p)) linkOf n (chunks 297 32 s) i
+Inv-loop s p n i₀ i = Asking (inUse (viewPair p) (viewLinks s)) (uses (viewPair p)) linkOf n (chunks linkWidth linkCap s) i
 
 abbrev μ-loop : tie.MeasureT-loop
 μ-loop s p n i₀ i = n - i
