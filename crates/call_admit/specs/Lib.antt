@@ -1,5 +1,5 @@
 pub mod Put
-pub mod Arrived
 pub mod Ruling
 pub mod Answer
 pub mod Displace
+pub mod Admit

@@ -1,7 +1,7 @@
 // A new link and leg for a msg1 that is admitted.
 use crate::put::put_msg2;
+use input_call::hello::Hello;
 use input_field::message_of;
-use input_hello::Hello;
 use legs::leg::Leg;
 use legs::leg::answer_leg;
 use links::record::Dir;
@@ -17,7 +17,7 @@ ghost use lib.ListN.{length};
 ghost use Rattle.rules.specs.Legs.{answerLeg};
 ghost use Rattle.rules.specs.Settle as rule;
 ghost use Rattle.legs.specs.View.{FitLeg, viewLeg};
-ghost use Rattle.input_hello.specs.Hello.{helloOf, FitHello};
+ghost use Rattle.input_call.specs.Hello.{helloOf, FitHello};
 ghost use Rattle.table_layout.specs.View.{viewTable, FitTable};
 ghost use Rattle.call_contract.specs.Did.{Space, Did};
 

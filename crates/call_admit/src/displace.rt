@@ -2,7 +2,7 @@
 use crate::answer::answer;
 use call_remove::peer::remove_at;
 use gates_types::Source;
-use input_hello::Hello;
+use input_call::hello::Hello;
 use node_addr::NodeAddr;
 use output_code::Why;
 use table_gates::stamp;
@@ -15,7 +15,7 @@ ghost use lib.ListN.{length};
 ghost use Rattle.rules.specs.Settle as rule;
 ghost use Rattle.rules.specs.Settle.{_▸_};
 ghost use Rattle.gates_types.specs.View.{sourceOf};
-ghost use Rattle.input_hello.specs.Hello.{helloOf, FitHello};
+ghost use Rattle.input_call.specs.Hello.{helloOf, FitHello};
 ghost use Rattle.output_code.specs.Codes.{whyOf};
 ghost use Rattle.table_layout.specs.View.{viewTable, Told, nthHeld};
 ghost use Rattle.call_contract.specs.Did.{Space, Did};

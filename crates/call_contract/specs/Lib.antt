@@ -1,2 +1,3 @@
 pub mod Did
 pub mod Sound
+pub mod Loop

@@ -1,3 +1,1 @@
-pub mod Path
 pub mod Peer
-pub mod Wake

@@ -1,4 +1,2 @@
 // What is heard of held peers, the paths of their links, and when the table wants a poll.
-pub mod path;
 pub mod peer;
-pub mod wake;

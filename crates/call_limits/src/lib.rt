@@ -1,7 +1,6 @@
 // Refusals 4, 5 and 6: whether there is a number for one more link, room for it, and a place for its peer.
 pub mod count;
 pub mod named;
-pub mod remembered;
 
 use crate::count::count_places;
 use crate::named::has_place;

@@ -1,8 +1,8 @@
 // Who names a peer: legs, memories, held peers.
-use crate::remembered::find_memory;
 use node_addr::Found;
 use node_addr::NodeAddr;
 use node_addr::same::same_node;
+use table_gates::find_memory;
 use table_held::find_held;
 use table_legs::leg_count;
 use table_legs::leg_named;

@@ -1,2 +1,2 @@
-pub mod Admit
 pub mod Msg1
+pub mod Arrived

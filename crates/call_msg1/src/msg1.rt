@@ -1,12 +1,12 @@
 // The calls of a msg1: one that came before is answered as then, one of the same session is a rekey, any other asks to be admitted.
-use crate::admit::admit;
-use crate::admit::admit_held;
-use crate::admit::admit_new;
+use call_admit::admit::admit;
+use call_admit::admit::admit_held;
+use call_admit::admit::admit_new;
 use call_admit::put::put_msg2;
 use call_contract::Answer;
 use call_limits::exhausted;
 use gates_types::Source;
-use input_hello::Hello;
+use input_call::hello::Hello;
 use node_addr::Found;
 use node_addr::place::load_spelt;
 use output_record::put::put_free;
@@ -26,7 +26,7 @@ ghost use Rattle.rules.specs.Data.{Output, Rekey, Free};
 ghost use Rattle.rules.specs.Settle as rule;
 ghost use Rattle.node_addr.specs.Place.{pairHere, PairIn};
 ghost use Rattle.legs.specs.At.{answerOf};
-ghost use Rattle.input_hello.specs.Hello.{helloOf, FitHello};
+ghost use Rattle.input_call.specs.Hello.{helloOf, FitHello};
 ghost use Rattle.output_record.specs.Write.{Puts};
 ghost use Rattle.table_layout.specs.View.{viewTable, FitTable, nthLeg, nthHeld};
 ghost use Rattle.call_contract.specs.Did.{Space, Ruled};

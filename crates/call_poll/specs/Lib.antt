@@ -1,5 +1,2 @@
-pub mod Loop
 pub mod Poll
-pub mod Close
-pub mod Clear
-pub mod Remove
+pub mod Wake

@@ -9,8 +9,6 @@ use borrow.Author.Tests.{ltb-true, ne-eqb}
 use lib.Dec.{eqb, ltb}
 use lib.Seq.{drop-drop, getD-drop}
 use lib.ListN.{length, take, drop, getD, length-drop}
-use mir.Syntax.{w64}
-use mir.Val.{Fits}
 use Rattle.rules.specs.Base.{Bytes, if_then_else_, find, without, keep, All}
 use Rattle.rules.specs.Std.{Ascending}
 use Rattle.rules.specs.Data.{Leg, Table, Step, Resend}
@@ -27,11 +25,11 @@ use Rattle.lib_laws.specs.Place.{First, here, there, first-of, none-of, place-w
 use Rattle.legs.specs.At.{Stands, resendDue, pastDeadline}
 use Rattle.legs.specs.View.{noLeg}
 use Rattle.output_record.specs.Write.{Puts}
-use Rattle.table_layout.specs.View.{viewTable, FitTable, nthLeg}
-use Rattle.table_layout.specs.Told.{leg-small, told-same}
+use Rattle.table_layout.specs.View.{viewTable, nthLeg}
+use Rattle.table_layout.specs.Told.{told-same}
 use Rattle.call_contract.specs.Did.{Space, Did, space-left, space-right, did-then}
 use Rattle.call_contract.specs.Sound.{sound-ends}
-use Rattle.call_poll.specs.Loop.{Writing, writing-start, writing-room, writing-one, writing-end, Doing, doing-space, doing-turn, doing-end}
+use Rattle.call_contract.specs.Loop.{Writing, writing-start, writing-room, writing-one, writing-end, Doing, doing-space, doing-turn, doing-end}
 
 -- ---- what passes a test, by the first that does
 module _ {A : Type 0} (t : A → Bool) where
@@ -83,10 +81,6 @@ module _ {A : Type 0} (t : A → Bool) where
       let z : k + (i - k) ≡ i = omega arith in
       let y : k + suc (i - k) ≡ i + 1 = omega arith in
       (l, omega (arith, w, length-drop k s), first-kept d (f .1) ∙ rw (getD-drop, drop-drop, z, y))
-
--- the place after a leg's is a number of 64 bits
-pub next-place : {t : Bytes} {i : ℕ} → FitTable t → i < length (viewTable t .legs) → Fits w64 (i + 1)
-next-place f h = record { fits = omega (arith, leg-small f h) }
 
 -- ---- resends: the loop stands at leg `from`, and those before have been looked at
 pub record Resending (xs : Bytes) (at clock : ℕ) (s : List Leg) (ys : Bytes) (e from : ℕ) : Type 0 where

@@ -11,7 +11,7 @@ use Rattle.rules.specs.Data.{Call, Table, Result}
 use Rattle.rules.specs.Field.{Reader, fail}
 use Rattle.rules.specs.Record.{finished}
 use Rattle.rules.specs.Settle.{refuse, step}
-use Rattle.input_hello.specs.Read.{Reads, kindFields}
+use Rattle.input_call.specs.Read.{Reads, kindFields}
 use Rattle.table_layout.specs.View.{viewTable}
 use Rattle.call_contract.specs.Did.{Space, Ruled, ruled-is, ruled-refused, space-result}
 use Rattle.call_contract.specs.Sound.{Ready}

@@ -11,12 +11,12 @@ use Rattle.rules.specs.Field.{fail, whys, whyCode, states}
 use Rattle.rules.specs.Links.{path}
 use Rattle.rules.specs.Record.{kinds}
 use Rattle.rules.specs.Settle.{withLinks, writes, still, ok, refuse, unsent, crowded, addPath}
-use Rattle.input_hello.specs.Read.{kindFields, no-kind}
+use Rattle.input_call.specs.Read.{kindFields, no-kind}
 use Rattle.output_record.specs.Write.{Puts, puts-none}
 use Rattle.table_layout.specs.View.{viewTable, FitTable, Told}
 use Rattle.table_layout.specs.Told.{told-same}
 use Rattle.call_contract.specs.Did.{Ruled, ruled-ok}
-use Rattle.call_heard.specs.Path.{Numbered}
+use Rattle.call_path.specs.Path.{Numbered}
 
 -- ---- codes
 pub why-is : (w : Why) {k : ℕ} → whyCode w ≡ k → getD whys k Why.Restart ≡ w

@@ -1,11 +1,11 @@
 // The calls of a msg1: arrived, msg1, replacement.
-use call_admit::arrived::arrived;
 use call_contract::Answer;
+use call_msg1::arrived::arrived;
 use call_msg1::msg1::msg1;
 use call_msg1::msg1::replacement;
-use input_handshake::arrived_fields;
-use input_handshake::msg1_fields;
-use input_handshake::replacement_fields;
+use input_call::handshake::arrived_fields;
+use input_call::handshake::msg1_fields;
+use input_call::handshake::replacement_fields;
 ghost use Rattle.rules.specs.Record.{arrivedFields, msg1Fields, replacementFields};
 ghost use Rattle.call_step.specs.Ask.{Asked, Answers};
 

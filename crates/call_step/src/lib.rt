@@ -24,7 +24,7 @@ use crate::times::wake_call;
 use call_contract::Answer;
 ghost use mathlib.Core.Path.{_≡_};
 ghost use Prim.Native.Nat.{_≤_, _<_};
-ghost use Rattle.input_hello.specs.Read.{kindFields};
+ghost use Rattle.input_call.specs.Read.{kindFields};
 ghost use Rattle.call_step.specs.Ask.{Asked, Answers};
 
 // Kinds 0 to 5.

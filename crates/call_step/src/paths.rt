@@ -1,9 +1,9 @@
 // The calls of a link's paths: path, release.
 use call_contract::Answer;
-use call_heard::path::add_path;
-use call_heard::path::release;
-use input_event::path_fields;
-use input_event::release_fields;
+use call_path::path::add_path;
+use call_path::path::release;
+use input_call::event::path_fields;
+use input_call::event::release_fields;
 use links::record::Proven;
 ghost use mathlib.Core.Path.{_≡_};
 ghost use Prim.Native.Nat.{_<_};

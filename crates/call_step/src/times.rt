@@ -1,8 +1,8 @@
 // The calls with no field: poll, close, wake.
+use call_close::close::close;
 use call_contract::Answer;
-use call_heard::wake::wake;
-use call_poll::close::close;
 use call_poll::poll::poll;
+use call_poll::wake::wake;
 use input_cursor::whole;
 ghost use Rattle.rules.specs.Data.{Call};
 ghost use Rattle.rules.specs.Field.{give};

@@ -15,7 +15,7 @@ use Rattle.rules.specs.Field.{Reader, give, fail, bind, number, clock, more}
 use Rattle.rules.specs.Record.{Timed, timed, finished, framed, readCall}
 use Rattle.lib_laws.specs.Parse.{number-yes, number-no, byte-is}
 use Rattle.lib_laws.specs.Follow.{Stepped, follows-start, follows-step}
-use Rattle.input_hello.specs.Read.{kindFields}
+use Rattle.input_call.specs.Read.{kindFields}
 
 -- the kind, where length and version are right
 unfoldable pub heading : Reader ℕ

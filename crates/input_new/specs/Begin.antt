@@ -16,7 +16,7 @@ use Rattle.lib_laws.specs.Follow.{Stepped, Follows, follows-start, follows-step
 use Rattle.params.specs.View.{viewParams}
 use Rattle.input_field.specs.Told.{below}
 use Rattle.input_cursor.specs.Row.{coded}
-use Rattle.input_hello.specs.Read.{follows-whole}
+use Rattle.input_call.specs.Read.{follows-whole}
 use Rattle.input_frame.specs.Frame.{heading, framed-is}
 use Rattle.input_new.specs.declared.SpansAt as spansat
 use Rattle.input_new.specs.declared.ReadNew as readnew

@@ -27,7 +27,7 @@ use Rattle.input_new.specs.declared.ReadNew as readnew
 use Rattle.table_layout.specs.View.{viewTable, Told}
 use Rattle.call_contract.specs.Did.{Space, Ruled, ruled-refused, ruled-is, space-result}
 use Rattle.call_contract.specs.Sound.{Ready, sound-bounds}
-use Rattle.input_hello.specs.Read.{kindFields}
+use Rattle.input_call.specs.Read.{kindFields}
 use Rattle.input_frame.specs.Frame.{Opens}
 use Rattle.call_step.specs.Ask.{answered, Asked, Answers}
 use Rattle.settle.specs.Contract.{Left, Begun, ruled, ruledBytes, Called}

@@ -3,6 +3,7 @@ use gates_types::Liveness;
 use gates_types::Source;
 use gates_types::Verdict;
 use node_addr::Digest;
+use node_addr::Found;
 use node_addr::NodeAddr;
 use params::Params;
 use table_layout::layout::GATES;
@@ -14,6 +15,8 @@ ghost use Rattle.rules.specs.Base.{All};
 ghost use Rattle.rules.specs.Std.{Ascending};
 ghost use Rattle.rules.specs.Gates as rule;
 ghost use Rattle.rules.specs.Settle.{withGates};
+ghost use Rattle.lib_laws.specs.Scan.{scan};
+ghost use Rattle.node_addr.specs.View.{Finds};
 ghost use Rattle.params.specs.View.{viewParams};
 ghost use Rattle.gates_types.specs.View.{optional, FitParams, Within, refusedBy, asking};
 ghost use Rattle.gates.specs.Order.{Room};
@@ -25,6 +28,14 @@ pub fn memory_count(t: &[u8]) -> usize
     ensures { λ r. ⌜ r ≡ length (viewTable (now (t .entry)) .gates) ⌝ }
 {
     gates::map::memory_count(&t[GATES..GATES_END])
+}
+
+// The place of what is remembered of a peer.
+pub fn find_memory(t: &[u8], peer: NodeAddr) -> Found
+    requires { ⌜ FitTable (now t) ⌝ }
+    ensures { λ r. ⌜ Finds r (scan (rule.memoryOf (peer .0)) 0 (viewTable (now (t .entry)) .gates)) ⌝ }
+{
+    gates::map::find_memory(&t[GATES..GATES_END], peer)
 }
 
 // The judgement of what asks.

@@ -202,6 +202,10 @@ module _ {t : Bytes} (f : FitTable t) {n : ℕ} where
 pub next-fits : {n k : ℕ} → n ≡ k → k + 1 < 2 ^ 64 → Fits w64 (n + 1)
 next-fits e h = record { fits = subst (λ (m : ℕ). m + 1 < 2 ^ 64) (sym e) h }
 
+-- the place after a leg's
+pub next-place : {t : Bytes} {i : ℕ} → FitTable t → i < length (viewTable t .legs) → Fits w64 (i + 1)
+next-place f h = record { fits = omega (arith, leg-small f h) }
+
 pub entry-fits : (i : ℕ) → i < 32 → Fits w64 (i * legWidth)
 entry-fits i h = record { fits = omega arith }
 

@@ -1,4 +1,5 @@
 // The handshake legs of the table.
+pub mod clear;
 pub mod join;
 
 use legs::poll::Wake;

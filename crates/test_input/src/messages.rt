@@ -9,17 +9,17 @@ use crate::show::span;
 use crate::show::spelt;
 use crate::show::truth;
 use crate::show::word;
-use input_handshake::DialFields;
-use input_handshake::arrived_fields;
-use input_handshake::dial_fields;
-use input_handshake::msg1_fields;
-use input_handshake::replacement_fields;
-use input_hello::Hello;
+use input_call::handshake::DialFields;
+use input_call::handshake::arrived_fields;
+use input_call::handshake::dial_fields;
+use input_call::handshake::msg1_fields;
+use input_call::handshake::replacement_fields;
+use input_call::hello::Hello;
 use node_addr::Digest;
 ghost use Prim.Native.Nat.{_≤_};
 ghost use lib.ListN.{length};
 ghost use Rattle.node_addr.specs.View.{FitPair, FitMessage};
-ghost use Rattle.input_hello.specs.Hello.{FitHello};
+ghost use Rattle.input_call.specs.Hello.{FitHello};
 
 fn dial_words(f: DialFields)
     requires { ⌜ FitPair (f .pair) ⌝ }

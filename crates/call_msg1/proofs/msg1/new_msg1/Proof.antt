@@ -3,7 +3,7 @@ use mathlib.Core.Path.{sym, _∙_}
 use denote.Ref.{now}
 use Rattle.lib_laws.specs.Place.{place-within, find-at, find-nowhere}
 use Rattle.node_addr.specs.View.{finds-at, finds-none}
-use Rattle.input_hello.specs.Hello.{helloOf}
+use Rattle.input_call.specs.Hello.{helloOf}
 use Rattle.held.specs.View.{noHeld}
 use Rattle.call_contract.specs.Did.{space-result, puts-length, ruled-is}
 use Rattle.call_msg1.specs.Msg1.{msg1-new}

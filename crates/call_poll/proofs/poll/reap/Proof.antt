@@ -3,7 +3,7 @@ use mathlib.Core.Path.{sym, _∙_}
 use lib.ListN.{length}
 use Rattle.node_addr.specs.View.{finds-at, finds-none}
 use Rattle.table_layout.specs.View.{viewTable}
-use Rattle.call_poll.specs.Loop.{Doing, doing-start, writing-length}
+use Rattle.call_contract.specs.Loop.{Doing, doing-start, writing-length}
 use Rattle.call_poll.specs.Poll.{reaps, reap-end, reap-within, reap-space, reap-turn, reap-less}
 use borrow.Author.Needs.{needs}
 use Rattle.call_poll.proofs.poll.reap.Statement.{statement}

@@ -4,8 +4,9 @@ use native.Mathlib.Omega.{arith}
 use lib.ListN.{length}
 use Rattle.node_addr.specs.View.{finds-at, finds-none}
 use Rattle.table_layout.specs.View.{viewTable}
-use Rattle.call_poll.specs.Loop.{writing-length}
-use Rattle.call_poll.specs.Poll.{next-place, Resending, resending-start, resend-later, resend-within, resend-room, resend-turn, resend-end}
+use Rattle.table_layout.specs.Told.{next-place}
+use Rattle.call_contract.specs.Loop.{writing-length}
+use Rattle.call_poll.specs.Poll.{Resending, resending-start, resend-later, resend-within, resend-room, resend-turn, resend-end}
 use borrow.Author.Needs.{needs}
 use Rattle.call_poll.proofs.poll.resend_due.Statement.{statement}
 use Rattle.call_poll.proofs.poll.resend_due.Tie as tie

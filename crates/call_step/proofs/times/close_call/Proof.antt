@@ -5,7 +5,7 @@ use Rattle.call_contract.specs.Did.{puts-length, ruled-ok}
 use Rattle.call_step.specs.Ask.{unread, read-space, read-done}
 use borrow.Author.Needs.{needs}
 use Rattle.rules.specs.Data.{Call}
-use Rattle.input_event.specs.Shape.{bare-reads}
+use Rattle.input_call.specs.Event.{bare-reads}
 use Rattle.call_step.proofs.times.close_call.Statement.{statement}
 use Rattle.call_step.proofs.times.close_call.Tie as tie
 

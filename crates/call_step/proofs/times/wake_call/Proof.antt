@@ -4,7 +4,7 @@ use Rattle.call_contract.specs.Did.{puts-length}
 use Rattle.call_step.specs.Ask.{unread, read-space, read-done}
 use borrow.Author.Needs.{needs}
 use Rattle.rules.specs.Data.{Call}
-use Rattle.input_event.specs.Shape.{bare-reads}
+use Rattle.input_call.specs.Event.{bare-reads}
 use mathlib.Core.Path.{refl}
 use Rattle.call_step.specs.Kind.{ruled-puts}
 use Rattle.call_step.proofs.times.wake_call.Statement.{statement}

@@ -1,0 +1,2 @@
+pub mod Close
+pub mod Remove

@@ -1,0 +1,2 @@
+// The calls of a link's paths: path and release.
+pub mod path;

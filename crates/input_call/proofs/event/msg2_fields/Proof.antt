@@ -1,0 +1,15 @@
+use mathlib.Core.Bool.{true}
+use Rattle.rules.specs.Record.{msg2Fields}
+use Rattle.lib_laws.specs.Follow.{follows-start, follows-step}
+use Rattle.input_call.specs.Read.{reads-end}
+use borrow.Author.Needs.{needs}
+use Rattle.input_call.proofs.event.msg2_fields.Statement.{statement}
+use Rattle.input_call.proofs.event.msg2_fields.Tie as tie
+
+returns : tie.Need-returns
+unfolding msg2Fields
+returns c =
+    (reads-end (follows-step _ (follows-step _ (follows-step _ (follows-start msg2Fields true _ _) (c .before .before .before .before .word-at .ensures)) (c .before .before .before .word-at2 .ensures)) (c .before .before .pair-at .ensures .0)) (c .before .before .pair-at .ensures .0 .room) (c .before .whole .ensures), c .before .before .pair-at .ensures .1)
+
+pub msg2-fields-spec : {M : Type 1} → statement M
+msg2-fields-spec = tie.close (tie.spec (λ c κs. search needs) (λ c κs. search needs) (λ c κs. search needs) (λ c κs. search needs) returns)

@@ -1,0 +1,15 @@
+use mathlib.Core.Bool.{true}
+use Rattle.rules.specs.Record.{releaseFields}
+use Rattle.lib_laws.specs.Follow.{follows-start, follows-step}
+use Rattle.input_call.specs.Read.{reads-end}
+use borrow.Author.Needs.{needs}
+use Rattle.input_call.proofs.event.release_fields.Statement.{statement}
+use Rattle.input_call.proofs.event.release_fields.Tie as tie
+
+returns : tie.Need-returns
+unfolding releaseFields
+returns c =
+    (reads-end (follows-step _ (follows-step _ (follows-step _ (follows-start releaseFields true _ _) (c .before .before .before .before .word-at .ensures)) (c .before .before .before .pair-at .ensures .0)) (c .before .before .flag-at .ensures)) (c .before .before .flag-at .ensures .room) (c .before .whole .ensures), c .before .before .before .pair-at .ensures .1)
+
+pub release-fields-spec : {M : Type 1} → statement M
+release-fields-spec = tie.close (tie.spec (λ c κs. search needs) (λ c κs. search needs) (λ c κs. search needs) (λ c κs. search needs) returns)

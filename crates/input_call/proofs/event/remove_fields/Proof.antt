@@ -1,0 +1,18 @@
+use mathlib.Core.Bool.{true}
+use Rattle.rules.specs.Record.{removeFields}
+use Rattle.lib_laws.specs.Follow.{follows-start, follows-step}
+use Rattle.input_call.specs.Read.{reads-end}
+use Rattle.rules.specs.Data.{Why}
+use Rattle.rules.specs.Field.{whys}
+use Rattle.input_cursor.specs.Row.{coded}
+use borrow.Author.Needs.{needs}
+use Rattle.input_call.proofs.event.remove_fields.Statement.{statement}
+use Rattle.input_call.proofs.event.remove_fields.Tie as tie
+
+returns : tie.Need-returns
+unfolding removeFields
+returns c =
+    (reads-end (follows-step _ (follows-step _ (follows-start removeFields true _ _) (c .before .before .before .peer-at .ensures)) (coded whys Why.Restart (c .before .before .code-at .ensures .0))) (c .before .before .code-at .ensures .0 .room) (c .before .whole .ensures), c .before .before .code-at .ensures .1)
+
+pub remove-fields-spec : {M : Type 1} → statement M
+remove-fields-spec = tie.close (tie.spec (λ c κs. search needs) (λ c κs. search needs) (λ c κs. search needs) returns)

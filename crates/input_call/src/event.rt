@@ -1,0 +1,190 @@
+// The fields of the other calls, after their clock: readers in a row, up to the record's end.
+use input_cursor::code_at;
+use input_cursor::flag_at;
+use input_cursor::pair_at;
+use input_cursor::pair_past;
+use input_cursor::peer_at;
+use input_cursor::whole;
+use input_cursor::word_at;
+use node_addr::LinkNo;
+use node_addr::NodeAddr;
+use node_addr::Pair;
+ghost use mathlib.Core.Path.{_≡_};
+ghost use mathlib.Core.Bool.{true};
+ghost use Prim.Native.Nat.{ℕ, _≤_, _<_};
+ghost use lib.ListN.{length, drop, getD};
+ghost use Rattle.rules.specs.Data.{Call, Live, Why};
+ghost use Rattle.rules.specs.Field.{whys, states};
+ghost use Rattle.rules.specs.Record.{linkFields, msg2Fields, restartedFields, heardFields, removeFields, pathFields, releaseFields};
+ghost use Rattle.node_addr.specs.View.{viewPair, FitPair};
+ghost use Rattle.node_addr.specs.Place.{pairHere, PairIn};
+ghost use Rattle.input_call.specs.Read.{Reads};
+
+pub struct LinkFields {
+    pub ok: bool,
+    pub link: LinkNo,
+}
+
+pub struct Msg2Fields {
+    pub ok: bool,
+    pub link: LinkNo,
+    pub epoch: u64,
+    pub pair: Pair,
+}
+
+pub struct RestartedFields {
+    pub ok: bool,
+    pub peer: NodeAddr,
+    pub epoch: u64,
+}
+
+pub struct HeardFields {
+    pub ok: bool,
+    pub peer: NodeAddr,
+    pub from: usize,
+}
+
+pub struct RemoveFields {
+    pub ok: bool,
+    pub peer: NodeAddr,
+    pub why: u8,
+}
+
+pub struct PathFields {
+    pub ok: bool,
+    pub link: LinkNo,
+    pub pair: Pair,
+    pub state: u8,
+}
+
+pub struct ReleaseFields {
+    pub ok: bool,
+    pub link: LinkNo,
+    pub pair: Pair,
+    pub keep: bool,
+}
+
+// 2 abandon, 6 sent, 7 unsent: link.
+pub fn link_fields(s: &[u8], at: usize) -> LinkFields
+    requires { ⌜ at ≤ length (now s) ⌝ }
+    ensures { λ r. ⌜ ((f : ℕ → Call) → Reads (linkFields f) at (now (s .entry)) (r .ok) (f (r .link .0))) ⌝ }
+{
+    let n = word_at(s, true, at);
+    let good = whole(s, n.ok, n.at);
+    let link = LinkNo(n.value);
+    LinkFields {
+        ok: good,
+        link: link,
+    }
+}
+
+// 8 msg2: link, epoch, pair.
+pub fn msg2_fields(s: &[u8], at: usize) -> Msg2Fields
+    requires { ⌜ at ≤ length (now s) ⌝ }
+    ensures { λ r. ⌜ Reads msg2Fields at (now (s .entry)) (r .ok) (Call.Msg2 (r .link .0) (r .epoch) (viewPair (r .pair))) ⌝ }
+    ensures { λ r. ⌜ FitPair (r .pair) ⌝ }
+{
+    let n = word_at(s, true, at);
+    let e = word_at(s, n.ok, n.at);
+    let p = pair_at(s, e.ok, e.at);
+    let good = whole(s, p.ok, p.at);
+    let pair = p.value;
+    let link = LinkNo(n.value);
+    Msg2Fields {
+        ok: good,
+        link: link,
+        epoch: e.value,
+        pair: pair,
+    }
+}
+
+// 9 restarted: peer, epoch.
+pub fn restarted_fields(s: &[u8], at: usize) -> RestartedFields
+    requires { ⌜ at ≤ length (now s) ⌝ }
+    ensures { λ r. ⌜ Reads restartedFields at (now (s .entry)) (r .ok) (Call.Restarted (r .peer .0) (r .epoch)) ⌝ }
+{
+    let p = peer_at(s, true, at);
+    let e = word_at(s, p.ok, p.at);
+    let good = whole(s, e.ok, e.at);
+    let peer = p.value;
+    RestartedFields {
+        ok: good,
+        peer: peer,
+        epoch: e.value,
+    }
+}
+
+// 10 heard: peer, pair, which stays where it stands, from `from` on.
+pub fn heard_fields(s: &[u8], at: usize) -> HeardFields
+    requires { ⌜ at ≤ length (now s) ⌝ }
+    ensures { λ r. ⌜ Reads heardFields at (now (s .entry)) (r .ok) (Call.Heard (r .peer .0) (pairHere (drop (r .from) (now (s .entry))))) ⌝ }
+    ensures { λ r. ⌜ (r .ok ≡ true → PairIn (now (s .entry)) (r .from)) ⌝ }
+{
+    let p = peer_at(s, true, at);
+    let f = pair_past(s, p.ok, p.at);
+    let good = whole(s, f.ok, f.at);
+    let peer = p.value;
+    HeardFields {
+        ok: good,
+        peer: peer,
+        from: p.at,
+    }
+}
+
+// 11 remove: peer, why.
+pub fn remove_fields(s: &[u8], at: usize) -> RemoveFields
+    requires { ⌜ at ≤ length (now s) ⌝ }
+    ensures { λ r. ⌜ Reads removeFields at (now (s .entry)) (r .ok) (Call.Remove (r .peer .0) (getD whys (r .why) Why.Restart)) ⌝ }
+    ensures { λ r. ⌜ r .why < 9 ⌝ }
+{
+    let p = peer_at(s, true, at);
+    let w = code_at(s, p.ok, p.at, 9);
+    let good = whole(s, w.ok, w.at);
+    let peer = p.value;
+    RemoveFields {
+        ok: good,
+        peer: peer,
+        why: w.value,
+    }
+}
+
+// 14 path: link, pair, state.
+pub fn path_fields(s: &[u8], at: usize) -> PathFields
+    requires { ⌜ at ≤ length (now s) ⌝ }
+    ensures { λ r. ⌜ Reads pathFields at (now (s .entry)) (r .ok) (Call.Path (r .link .0) (viewPair (r .pair)) (getD states (r .state) Live)) ⌝ }
+    ensures { λ r. ⌜ FitPair (r .pair) ⌝ }
+    ensures { λ r. ⌜ r .state < 3 ⌝ }
+{
+    let n = word_at(s, true, at);
+    let f = pair_at(s, n.ok, n.at);
+    let v = code_at(s, f.ok, f.at, 3);
+    let good = whole(s, v.ok, v.at);
+    let pair = f.value;
+    let link = LinkNo(n.value);
+    PathFields {
+        ok: good,
+        link: link,
+        pair: pair,
+        state: v.value,
+    }
+}
+
+// 15 release: link, pair, keep flag.
+pub fn release_fields(s: &[u8], at: usize) -> ReleaseFields
+    requires { ⌜ at ≤ length (now s) ⌝ }
+    ensures { λ r. ⌜ Reads releaseFields at (now (s .entry)) (r .ok) (Call.Release (r .link .0) (viewPair (r .pair)) (r .keep)) ⌝ }
+    ensures { λ r. ⌜ FitPair (r .pair) ⌝ }
+{
+    let n = word_at(s, true, at);
+    let f = pair_at(s, n.ok, n.at);
+    let k = flag_at(s, f.ok, f.at);
+    let good = whole(s, k.ok, k.at);
+    let pair = f.value;
+    let link = LinkNo(n.value);
+    ReleaseFields {
+        ok: good,
+        link: link,
+        pair: pair,
+        keep: k.value,
+    }
+}

@@ -1,0 +1,165 @@
+// The fields of the calls that carry a message, after their clock: readers in a row, up to the record's end.
+use crate::hello::Hello;
+use input_cursor::digest_at;
+use input_cursor::flag_at;
+use input_cursor::lease_at;
+use input_cursor::message_at;
+use input_cursor::pair_at;
+use input_cursor::pair_past;
+use input_cursor::peer_at;
+use input_cursor::span_at;
+use input_cursor::whole;
+use input_cursor::word_at;
+use input_field::Span;
+use node_addr::Message;
+use node_addr::NodeAddr;
+use node_addr::Pair;
+ghost use mathlib.Core.Path.{_≡_};
+ghost use mathlib.Core.Bool.{true};
+ghost use Prim.Native.Nat.{_≤_};
+ghost use lib.ListN.{length, drop};
+ghost use Rattle.rules.specs.Data.{Call};
+ghost use Rattle.rules.specs.Record.{hello, dialFields, arrivedFields, msg1Fields, replacementFields};
+ghost use Rattle.lib_laws.specs.Follow.{Stepped};
+ghost use Rattle.node_addr.specs.View.{viewPair, viewMessage, FitPair, FitMessage};
+ghost use Rattle.node_addr.specs.Place.{pairHere, PairIn};
+ghost use Rattle.input_field.specs.Field.{spanOf, FitSpan};
+ghost use Rattle.input_call.specs.Read.{Reads};
+ghost use Rattle.input_call.specs.Hello.{helloOf, FitHello};
+
+pub struct DialFields {
+    pub ok: bool,
+    pub peer: NodeAddr,
+    pub pair: Pair,
+    pub message: Message,
+    pub lease: u32,
+}
+
+pub struct ArrivedFields {
+    pub ok: bool,
+    pub from: usize,
+    pub message: Span,
+}
+
+pub struct HelloAt {
+    pub ok: bool,
+    pub hello: Hello,
+    pub at: usize,
+}
+
+pub struct Msg1Fields {
+    pub ok: bool,
+    pub hello: Hello,
+    pub reachable: bool,
+}
+
+pub struct ReplacementFields {
+    pub ok: bool,
+    pub hello: Hello,
+}
+
+// 1 dial: peer, pair, msg1, lease.
+pub fn dial_fields(s: &[u8], at: usize) -> DialFields
+    requires { ⌜ at ≤ length (now s) ⌝ }
+    ensures { λ r. ⌜ Reads dialFields at (now (s .entry)) (r .ok) (Call.Dial (r .peer .0) (viewPair (r .pair)) (viewMessage (r .message)) (r .lease)) ⌝ }
+    ensures { λ r. ⌜ FitPair (r .pair) ⌝ }
+    ensures { λ r. ⌜ FitMessage (r .message) ⌝ }
+{
+    let p = peer_at(s, true, at);
+    let t = pair_at(s, p.ok, p.at);
+    let m = message_at(s, t.ok, t.at);
+    let l = lease_at(s, m.ok, m.at);
+    let good = whole(s, l.ok, l.at);
+    let peer = p.value;
+    let pair = t.value;
+    let message = m.value;
+    DialFields {
+        ok: good,
+        peer: peer,
+        pair: pair,
+        message: message,
+        lease: l.value,
+    }
+}
+
+// 3 arrived: pair, which stays where it stands, from `from` on, message.
+pub fn arrived_fields(s: &[u8], at: usize) -> ArrivedFields
+    requires { ⌜ at ≤ length (now s) ⌝ }
+    ensures { λ r. ⌜ Reads arrivedFields at (now (s .entry)) (r .ok) (Call.Arrived (pairHere (drop (r .from) (now (s .entry)))) (spanOf (now (s .entry)) (r .message))) ⌝ }
+    ensures { λ r. ⌜ (r .ok ≡ true → PairIn (now (s .entry)) (r .from)) ⌝ }
+    ensures { λ r. ⌜ FitSpan (now (s .entry)) (r .message) ⌝ }
+{
+    let f = pair_past(s, true, at);
+    let m = span_at(s, f.ok, f.at);
+    let good = whole(s, m.ok, m.at);
+    let message = m.value;
+    ArrivedFields {
+        ok: good,
+        from: at,
+        message: message,
+    }
+}
+
+// What msg1 and replacement share: peer, pair, message, digest, epoch, msg2, lease.
+pub fn hello_at(s: &[u8], at: usize) -> HelloAt
+    requires { ⌜ at ≤ length (now s) ⌝ }
+    ensures { λ r. ⌜ Stepped hello true at (now (s .entry)) (r .ok) (helloOf (now (s .entry)) (r .hello)) (r .at) ⌝ }
+    ensures { λ r. ⌜ (r .ok ≡ true → FitHello (now (s .entry)) (r .hello)) ⌝ }
+{
+    let p = peer_at(s, true, at);
+    let f = pair_past(s, p.ok, p.at);
+    let b = span_at(s, f.ok, f.at);
+    let d = digest_at(s, b.ok, b.at);
+    let e = word_at(s, d.ok, d.at);
+    let m = span_at(s, e.ok, e.at);
+    let l = lease_at(s, m.ok, m.at);
+    let peer = p.value;
+    let message = b.value;
+    let digest = d.value;
+    let msg2 = m.value;
+    HelloAt {
+        ok: l.ok,
+        hello: Hello {
+            peer: peer,
+            from: p.at,
+            message: message,
+            digest: digest,
+            epoch: e.value,
+            msg2: msg2,
+            lease: l.value,
+        },
+        at: l.at,
+    }
+}
+
+// 4 msg1: these, reachable flag.
+pub fn msg1_fields(s: &[u8], at: usize) -> Msg1Fields
+    requires { ⌜ at ≤ length (now s) ⌝ }
+    ensures { λ r. ⌜ Reads msg1Fields at (now (s .entry)) (r .ok) (Call.Msg1 (helloOf (now (s .entry)) (r .hello)) (r .reachable)) ⌝ }
+    ensures { λ r. ⌜ (r .ok ≡ true → FitHello (now (s .entry)) (r .hello)) ⌝ }
+{
+    let h = hello_at(s, at);
+    let f = flag_at(s, h.ok, h.at);
+    let good = whole(s, f.ok, f.at);
+    let hello = h.hello;
+    Msg1Fields {
+        ok: good,
+        hello: hello,
+        reachable: f.value,
+    }
+}
+
+// 5 replacement: these.
+pub fn replacement_fields(s: &[u8], at: usize) -> ReplacementFields
+    requires { ⌜ at ≤ length (now s) ⌝ }
+    ensures { λ r. ⌜ Reads replacementFields at (now (s .entry)) (r .ok) (Call.Replacement (helloOf (now (s .entry)) (r .hello))) ⌝ }
+    ensures { λ r. ⌜ (r .ok ≡ true → FitHello (now (s .entry)) (r .hello)) ⌝ }
+{
+    let h = hello_at(s, at);
+    let good = whole(s, h.ok, h.at);
+    let hello = h.hello;
+    ReplacementFields {
+        ok: good,
+        hello: hello,
+    }
+}
