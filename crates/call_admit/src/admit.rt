@@ -6,7 +6,7 @@ use crate::ruling::Ruling;
 use crate::ruling::denied;
 use crate::ruling::denied_new;
 use call_contract::Answer;
-use call_limits::entering;
+use call_limits::room_refusal;
 use gates_types::Source;
 use input_call::hello::Hello;
 use node_addr::Found;
@@ -34,7 +34,7 @@ fn enter(t: &mut [u8], out: &mut [u8], at: usize, s: &[u8], h: Hello, clock: u64
         (rule.entering (h .peer .0) (viewTable (now (t .entry))) (rule.ok (rule.answer clock (helloOf (now (s .entry)) h) false (viewTable (now (t .entry)))))) ⌝ }
 {
     let peer = h.peer;
-    let n = entering(t, peer);
+    let n = room_refusal(t, peer);
     if n != 0 {
         return Answer { number: n, len: at };
     }

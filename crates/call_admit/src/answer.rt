@@ -6,10 +6,10 @@ use legs::leg::Leg;
 use legs::leg::answer_leg;
 use links::record::Dir;
 use node_addr::LinkNo;
-use node_addr::place::load_spelt;
+use node_addr::place::load_wire_pair;
 use table_layout::head::next_no;
 use table_layout::head::params_of;
-use table_legs::join::join;
+use table_legs::open::open_leg;
 use table_legs::leg_count;
 ghost use mathlib.Core.Path.{_≡_};
 ghost use Prim.Native.Nat.{_+_, _<_, _^_};
@@ -70,9 +70,9 @@ pub fn answer(
     requires { ⌜ Space (now out) at ((rule.answer clock (helloOf (now s) h) replaces (viewTable (now t))) .outs) ⌝ }
     ensures { λ r. ⌜ Did (now (out .entry)) at (now (t .exit)) (now (out .exit)) r (rule.answer clock (helloOf (now (s .entry)) h) replaces (viewTable (now (t .entry)))) ⌝ }
 {
-    let pair = load_spelt(s, h.from);
+    let pair = load_wire_pair(s, h.from);
     let leg = next_leg(t, s, h, replaces, clock);
-    join(t, pair, Dir::Inbound, leg);
+    open_leg(t, pair, Dir::Inbound, leg);
     let k = leg_count(t);
     put_msg2(t, out, at, k - 1, false)
 }

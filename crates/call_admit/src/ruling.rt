@@ -5,7 +5,7 @@ use gates_types::Source;
 use gates_types::Verdict;
 use node_addr::Digest;
 use node_addr::NodeAddr;
-use table_gates::judged;
+use table_gates::gate;
 use table_held::held_dated;
 use table_held::held_heard;
 use table_held::held_installed;
@@ -64,7 +64,7 @@ fn ruled(
         return Ruling::Deny(Denial::Full);
     }
     let c = params_of(t);
-    match judged(t, peer, source, l, digest, epoch, clock, c) {
+    match gate(t, peer, source, l, digest, epoch, clock, c) {
         Verdict::Pass => Ruling::Admit,
         Verdict::Refuse(r) => Ruling::Deny(Denial::Gate(r)),
     }

@@ -1,7 +1,7 @@
 // Call 1: this node dials a peer.
 use call_contract::Answer;
-use call_limits::entering;
-use call_limits::exhausted;
+use call_limits::room_refusal;
+use call_limits::numbers_exhausted;
 use legs::leg::dial_leg;
 use links::record::Dir;
 use node_addr::LinkNo;
@@ -11,7 +11,7 @@ use node_addr::Pair;
 use output_record::put::put_opened;
 use table_layout::head::next_no;
 use table_layout::head::params_of;
-use table_legs::join::join;
+use table_legs::open::open_leg;
 ghost use Prim.Native.Nat.{_+_, _^_, _<_};
 ghost use lib.ListN.{length};
 ghost use Rattle.rules.specs.Data.{Call};
@@ -44,7 +44,7 @@ fn open_dial(
     let n = next_no(t);
     let c = params_of(t);
     let leg = dial_leg(c, clock, LinkNo(n), peer, msg1, lease);
-    join(t, to, Dir::Outbound, leg);
+    open_leg(t, to, Dir::Outbound, leg);
     put_opened(out, at, LinkNo(n))
 }
 
@@ -65,10 +65,10 @@ pub fn dial(
     requires { ⌜ Space (now out) at ((rule.step clock (Call.Dial (peer .0) (viewPair to) (viewMessage msg1) lease) (viewTable (now t))) .step .outs) ⌝ }
     ensures { λ r. ⌜ Ruled (now (t .entry)) (now (out .entry)) at (now (t .exit)) (now (out .exit)) (r .number) (r .len) (rule.step clock (Call.Dial (peer .0) (viewPair to) (viewMessage msg1) lease) (viewTable (now (t .entry)))) ⌝ }
 {
-    if exhausted(t) {
+    if numbers_exhausted(t) {
         return Answer { number: 4, len: at };
     }
-    let e = entering(t, peer);
+    let e = room_refusal(t, peer);
     if e != 0 {
         return Answer { number: e, len: at };
     }

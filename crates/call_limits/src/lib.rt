@@ -19,7 +19,7 @@ ghost use Rattle.table_layout.specs.View.{viewTable, FitTable};
 ghost use Rattle.call_limits.specs.Enter.{Enters};
 
 // 4: whether the next link number is the last one, which no link gets.
-pub fn exhausted(t: &[u8]) -> bool
+pub fn numbers_exhausted(t: &[u8]) -> bool
     requires { ⌜ FitTable (now t) ⌝ }
     ensures { λ r. ⌜ r ≡ eqb (viewTable (now (t .entry)) .next) (2 ^ 64 - 1) ⌝ }
 {
@@ -39,7 +39,7 @@ fn roomy(t: &[u8]) -> bool
 }
 
 // 5: 32 links are live; 6: the peer has no place and 32 places are used; 0: neither.
-pub fn entering(t: &[u8], peer: NodeAddr) -> u8
+pub fn room_refusal(t: &[u8], peer: NodeAddr) -> u8
     requires { ⌜ Ready (now t) ⌝ }
     ensures { λ r. ⌜ Enters r (peer .0) (viewTable (now (t .entry))) ⌝ }
 {

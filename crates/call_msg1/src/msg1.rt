@@ -4,11 +4,11 @@ use call_admit::admit::admit_held;
 use call_admit::admit::admit_new;
 use call_admit::put::put_msg2;
 use call_contract::Answer;
-use call_limits::exhausted;
+use call_limits::numbers_exhausted;
 use gates_types::Source;
 use input_call::hello::Hello;
 use node_addr::Found;
-use node_addr::place::load_spelt;
+use node_addr::place::load_wire_pair;
 use output_record::put::put_free;
 use output_record::put::put_rekey;
 use table_held::find_held;
@@ -61,7 +61,7 @@ fn rekey(
         (now (out .exit)) r ⌝ }
 {
     let peer = h.peer;
-    let pair = load_spelt(s, h.from);
+    let pair = load_wire_pair(s, h.from);
     let on_link = attributed(t, i, pair);
     let a = put_rekey(out, at, peer, on_link, reachable);
     put_free(out, a, h.lease)
@@ -170,7 +170,7 @@ pub fn msg1(
     ensures { λ r. ⌜ Ruled (now (t .entry)) (now (out .entry)) at (now (t .exit)) (now (out .exit)) (r .number) (r .len)
         (rule.step clock (shape.Call.Msg1 (helloOf (now (s .entry)) h) reachable) (viewTable (now (t .entry)))) ⌝ }
 {
-    if exhausted(t) {
+    if numbers_exhausted(t) {
         return Answer { number: 4, len: at };
     }
     numbered_msg1(t, out, at, s, h, reachable, clock)
@@ -191,7 +191,7 @@ pub fn replacement(
     ensures { λ r. ⌜ Ruled (now (t .entry)) (now (out .entry)) at (now (t .exit)) (now (out .exit)) (r .number) (r .len)
         (rule.step clock (shape.Call.Replacement (helloOf (now (s .entry)) h)) (viewTable (now (t .entry)))) ⌝ }
 {
-    if exhausted(t) {
+    if numbers_exhausted(t) {
         return Answer { number: 4, len: at };
     }
     admit(t, out, at, s, h, Source::Replacement, clock)

@@ -3,7 +3,7 @@ use links::record::Proven;
 use node_addr::LinkNo;
 use node_addr::Pair;
 use output_closes::put_release;
-use table_links::crowded;
+use table_links::paths_full;
 use table_links::set_path;
 ghost use Rattle.rules.specs.Settle as rule;
 ghost use Rattle.node_addr.specs.View.{FitPair, viewPair};
@@ -18,7 +18,7 @@ pub fn add_path(t: &mut [u8], n: LinkNo, p: Pair, v: Proven) -> u8
     requires { ⌜ FitPair p ⌝ }
     ensures { λ r. ⌜ Numbered (now (t .entry)) (now (t .exit)) r (rule.addPath (n .0) (viewPair p) (viewProven v) (viewTable (now (t .entry)))) ⌝ }
 {
-    if crowded(t, n, p) {
+    if paths_full(t, n, p) {
         return 7;
     }
     set_path(t, n, p, v);

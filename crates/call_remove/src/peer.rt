@@ -64,7 +64,7 @@ pub fn retries(w: Why) -> bool
 }
 
 // What is remembered of the i-th holder, which goes: unheard, it counts as a silence.
-pub fn part(t: &mut [u8], i: usize, peer: NodeAddr, clock: u64)
+pub fn count_silence(t: &mut [u8], i: usize, peer: NodeAddr, clock: u64)
     requires { ⌜ Ready (now t) ⌝ }
     requires { ⌜ i < length (viewTable (now t) .held) ⌝ }
     requires { ⌜ rule.heldAt (peer .0) (viewTable (now t)) ≡ some (nthHeld (viewTable (now t)) i) ⌝ }
@@ -114,7 +114,7 @@ pub fn remove_at(
     let n = held_link(t, i);
     let lists = closes(why);
     let again = retries(why);
-    part(t, i, peer, clock);
+    count_silence(t, i, peer, clock);
     drop_held(t, peer);
     let a = put_remove(out, at, peer, why);
     let b = retire(t, out, a, n, lists);

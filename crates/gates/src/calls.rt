@@ -141,7 +141,7 @@ pub fn heard(s: &mut [u8], peer: NodeAddr)
 }
 
 // The judgement of what asks.
-pub fn judged(
+pub fn gate(
     s: &[u8],
     peer: NodeAddr,
     source: Source,

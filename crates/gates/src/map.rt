@@ -12,8 +12,8 @@ use lib_region::open_chunk;
 use lib_region::remove_chunk;
 use node_addr::Found;
 use node_addr::NodeAddr;
-use node_addr::place::before_here;
-use node_addr::place::node_here;
+use node_addr::place::lt_node_at;
+use node_addr::place::eq_node_at;
 ghost use mathlib.Core.Path.{_≡_};
 ghost use mathlib.Core.Bool.{true};
 ghost use Prim.Native.Nat.{_<_};
@@ -46,7 +46,7 @@ pub fn find_memory(s: &[u8], peer: NodeAddr) -> Found
     let end = memory_count(s);
     let mut i = 0;
     while i < end {
-        if node_here(s, i * MEMORY_WIDTH, peer) {
+        if eq_node_at(s, i * MEMORY_WIDTH, peer) {
             return Found::At(i);
         }
         i += 1;
@@ -62,7 +62,7 @@ fn place_of(s: &[u8], peer: NodeAddr) -> usize
     let end = memory_count(s);
     let mut i = 0;
     while i < end {
-        if before_here(s, i * MEMORY_WIDTH, peer) {
+        if lt_node_at(s, i * MEMORY_WIDTH, peer) {
             return i;
         }
         i += 1;

@@ -19,7 +19,7 @@ use lib_bytes::flag::get_flag;
 use lib_bytes::read::get_8;
 use lib_region::count;
 use node_addr::Digest;
-use node_addr::place::digest_here;
+use node_addr::place::eq_digest_at;
 use params::Params;
 use params::time::younger;
 ghost use mathlib.Core.Path.{_≡_};
@@ -106,7 +106,7 @@ fn replayed(s: &[u8], i: usize, digest: Digest, clock: u64, c: Params) -> Verdic
     while j < n {
         let e = at + j * REPLAY_WIDTH;
         if younger(c.interval, clock, get_8(s, e + SEEN)) {
-            if digest_here(s, e, digest) {
+            if eq_digest_at(s, e, digest) {
                 return Verdict::Refuse(Refusal::Replayed);
             }
             live += 1;

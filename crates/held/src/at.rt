@@ -20,8 +20,8 @@ use node_addr::Pair;
 use node_addr::place::load_digest;
 use node_addr::place::load_node;
 use node_addr::place::load_pair;
-use node_addr::place::pair_here;
-use node_addr::place::pair_stands;
+use node_addr::place::eq_pair_at;
+use node_addr::place::eq_wire_pair;
 ghost use mathlib.Core.Path.{_≡_};
 ghost use Prim.Native.Nat.{_<_};
 ghost use lib.ListN.{drop};
@@ -124,7 +124,7 @@ pub fn current_is(s: &[u8], i: usize, p: Pair) -> bool
     requires { ⌜ FitPair p ⌝ }
     ensures { λ r. ⌜ r ≡ samePair (viewPair p) (nthHeld (now (s .entry)) i .current) ⌝ }
 {
-    pair_here(s, i * HELD_WIDTH + CURRENT, p)
+    eq_pair_at(s, i * HELD_WIDTH + CURRENT, p)
 }
 
 // Whether the current pair is the one that stands in a record.
@@ -134,7 +134,7 @@ pub fn current_stands(s: &[u8], i: usize, rec: &[u8], from: usize) -> bool
     requires { ⌜ PairIn (now rec) from ⌝ }
     ensures { λ r. ⌜ r ≡ samePair (pairHere (drop from (now (rec .entry)))) (nthHeld (now (s .entry)) i .current) ⌝ }
 {
-    pair_stands(s, i * HELD_WIDTH + CURRENT, rec, from)
+    eq_wire_pair(s, i * HELD_WIDTH + CURRENT, rec, from)
 }
 
 // The i-th held peer.

@@ -4,7 +4,7 @@ use crate::change::set_heard;
 use crate::change::set_last;
 use crate::layout::CURRENT;
 use crate::layout::HELD_WIDTH;
-use node_addr::place::load_spelt;
+use node_addr::place::load_wire_pair;
 use node_addr::place::put_pair;
 ghost use mathlib.Core.Path.{_≡_};
 ghost use Prim.Native.Nat.{_<_};
@@ -26,7 +26,7 @@ fn take_current(s: &mut [u8], i: usize, stays: bool, rec: &[u8], from: usize)
     if stays {
         return;
     }
-    let p = load_spelt(rec, from);
+    let p = load_wire_pair(rec, from);
     put_pair(s, i * HELD_WIDTH + CURRENT, p);
 }
 

@@ -9,8 +9,8 @@ use lib_region::open_chunk;
 use lib_region::remove_chunk;
 use node_addr::Found;
 use node_addr::NodeAddr;
-use node_addr::place::before_here;
-use node_addr::place::node_here;
+use node_addr::place::lt_node_at;
+use node_addr::place::eq_node_at;
 ghost use mathlib.Core.Path.{_≡_};
 ghost use Prim.Native.Nat.{_<_};
 ghost use lib.ListN.{length};
@@ -39,7 +39,7 @@ pub fn find_held(s: &[u8], peer: NodeAddr) -> Found
     let n = held_count(s);
     let mut i = 0;
     while i < n {
-        if node_here(s, i * HELD_WIDTH, peer) {
+        if eq_node_at(s, i * HELD_WIDTH, peer) {
             return Found::At(i);
         }
         i += 1;
@@ -55,7 +55,7 @@ fn place_for(s: &[u8], peer: NodeAddr) -> usize
     let n = held_count(s);
     let mut i = 0;
     while i < n {
-        if before_here(s, i * HELD_WIDTH, peer) {
+        if lt_node_at(s, i * HELD_WIDTH, peer) {
             return i;
         }
         i += 1;

@@ -1,11 +1,11 @@
 // The fields of the other calls, after their clock: readers in a row, up to the record's end.
-use input_cursor::code_at;
-use input_cursor::flag_at;
-use input_cursor::pair_at;
-use input_cursor::pair_past;
-use input_cursor::peer_at;
-use input_cursor::whole;
-use input_cursor::word_at;
+use input_cursor::next_code;
+use input_cursor::next_flag;
+use input_cursor::next_pair;
+use input_cursor::skip_pair;
+use input_cursor::next_peer;
+use input_cursor::at_end;
+use input_cursor::next_u64;
 use node_addr::LinkNo;
 use node_addr::NodeAddr;
 use node_addr::Pair;
@@ -69,8 +69,8 @@ pub fn link_fields(s: &[u8], at: usize) -> LinkFields
     requires { ⌜ at ≤ length (now s) ⌝ }
     ensures { λ r. ⌜ ((f : ℕ → Call) → Reads (linkFields f) at (now (s .entry)) (r .ok) (f (r .link .0))) ⌝ }
 {
-    let n = word_at(s, true, at);
-    let good = whole(s, n.ok, n.at);
+    let n = next_u64(s, true, at);
+    let good = at_end(s, n.ok, n.at);
     let link = LinkNo(n.value);
     LinkFields {
         ok: good,
@@ -84,10 +84,10 @@ pub fn msg2_fields(s: &[u8], at: usize) -> Msg2Fields
     ensures { λ r. ⌜ Reads msg2Fields at (now (s .entry)) (r .ok) (Call.Msg2 (r .link .0) (r .epoch) (viewPair (r .pair))) ⌝ }
     ensures { λ r. ⌜ FitPair (r .pair) ⌝ }
 {
-    let n = word_at(s, true, at);
-    let e = word_at(s, n.ok, n.at);
-    let p = pair_at(s, e.ok, e.at);
-    let good = whole(s, p.ok, p.at);
+    let n = next_u64(s, true, at);
+    let e = next_u64(s, n.ok, n.at);
+    let p = next_pair(s, e.ok, e.at);
+    let good = at_end(s, p.ok, p.at);
     let pair = p.value;
     let link = LinkNo(n.value);
     Msg2Fields {
@@ -103,9 +103,9 @@ pub fn restarted_fields(s: &[u8], at: usize) -> RestartedFields
     requires { ⌜ at ≤ length (now s) ⌝ }
     ensures { λ r. ⌜ Reads restartedFields at (now (s .entry)) (r .ok) (Call.Restarted (r .peer .0) (r .epoch)) ⌝ }
 {
-    let p = peer_at(s, true, at);
-    let e = word_at(s, p.ok, p.at);
-    let good = whole(s, e.ok, e.at);
+    let p = next_peer(s, true, at);
+    let e = next_u64(s, p.ok, p.at);
+    let good = at_end(s, e.ok, e.at);
     let peer = p.value;
     RestartedFields {
         ok: good,
@@ -120,9 +120,9 @@ pub fn heard_fields(s: &[u8], at: usize) -> HeardFields
     ensures { λ r. ⌜ Reads heardFields at (now (s .entry)) (r .ok) (Call.Heard (r .peer .0) (pairHere (drop (r .from) (now (s .entry))))) ⌝ }
     ensures { λ r. ⌜ (r .ok ≡ true → PairIn (now (s .entry)) (r .from)) ⌝ }
 {
-    let p = peer_at(s, true, at);
-    let f = pair_past(s, p.ok, p.at);
-    let good = whole(s, f.ok, f.at);
+    let p = next_peer(s, true, at);
+    let f = skip_pair(s, p.ok, p.at);
+    let good = at_end(s, f.ok, f.at);
     let peer = p.value;
     HeardFields {
         ok: good,
@@ -137,9 +137,9 @@ pub fn remove_fields(s: &[u8], at: usize) -> RemoveFields
     ensures { λ r. ⌜ Reads removeFields at (now (s .entry)) (r .ok) (Call.Remove (r .peer .0) (getD whys (r .why) Why.Restart)) ⌝ }
     ensures { λ r. ⌜ r .why < 9 ⌝ }
 {
-    let p = peer_at(s, true, at);
-    let w = code_at(s, p.ok, p.at, 9);
-    let good = whole(s, w.ok, w.at);
+    let p = next_peer(s, true, at);
+    let w = next_code(s, p.ok, p.at, 9);
+    let good = at_end(s, w.ok, w.at);
     let peer = p.value;
     RemoveFields {
         ok: good,
@@ -155,10 +155,10 @@ pub fn path_fields(s: &[u8], at: usize) -> PathFields
     ensures { λ r. ⌜ FitPair (r .pair) ⌝ }
     ensures { λ r. ⌜ r .state < 3 ⌝ }
 {
-    let n = word_at(s, true, at);
-    let f = pair_at(s, n.ok, n.at);
-    let v = code_at(s, f.ok, f.at, 3);
-    let good = whole(s, v.ok, v.at);
+    let n = next_u64(s, true, at);
+    let f = next_pair(s, n.ok, n.at);
+    let v = next_code(s, f.ok, f.at, 3);
+    let good = at_end(s, v.ok, v.at);
     let pair = f.value;
     let link = LinkNo(n.value);
     PathFields {
@@ -175,10 +175,10 @@ pub fn release_fields(s: &[u8], at: usize) -> ReleaseFields
     ensures { λ r. ⌜ Reads releaseFields at (now (s .entry)) (r .ok) (Call.Release (r .link .0) (viewPair (r .pair)) (r .keep)) ⌝ }
     ensures { λ r. ⌜ FitPair (r .pair) ⌝ }
 {
-    let n = word_at(s, true, at);
-    let f = pair_at(s, n.ok, n.at);
-    let k = flag_at(s, f.ok, f.at);
-    let good = whole(s, k.ok, k.at);
+    let n = next_u64(s, true, at);
+    let f = next_pair(s, n.ok, n.at);
+    let k = next_flag(s, f.ok, f.at);
+    let good = at_end(s, k.ok, k.at);
     let pair = f.value;
     let link = LinkNo(n.value);
     ReleaseFields {

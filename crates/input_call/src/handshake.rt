@@ -1,15 +1,15 @@
 // The fields of the calls that carry a message, after their clock: readers in a row, up to the record's end.
 use crate::hello::Hello;
-use input_cursor::digest_at;
-use input_cursor::flag_at;
-use input_cursor::lease_at;
-use input_cursor::message_at;
-use input_cursor::pair_at;
-use input_cursor::pair_past;
-use input_cursor::peer_at;
-use input_cursor::span_at;
-use input_cursor::whole;
-use input_cursor::word_at;
+use input_cursor::next_digest;
+use input_cursor::next_flag;
+use input_cursor::next_u32;
+use input_cursor::next_message;
+use input_cursor::next_pair;
+use input_cursor::skip_pair;
+use input_cursor::next_peer;
+use input_cursor::next_span;
+use input_cursor::at_end;
+use input_cursor::next_u64;
 use input_field::Span;
 use node_addr::Message;
 use node_addr::NodeAddr;
@@ -65,11 +65,11 @@ pub fn dial_fields(s: &[u8], at: usize) -> DialFields
     ensures { λ r. ⌜ FitPair (r .pair) ⌝ }
     ensures { λ r. ⌜ FitMessage (r .message) ⌝ }
 {
-    let p = peer_at(s, true, at);
-    let t = pair_at(s, p.ok, p.at);
-    let m = message_at(s, t.ok, t.at);
-    let l = lease_at(s, m.ok, m.at);
-    let good = whole(s, l.ok, l.at);
+    let p = next_peer(s, true, at);
+    let t = next_pair(s, p.ok, p.at);
+    let m = next_message(s, t.ok, t.at);
+    let l = next_u32(s, m.ok, m.at);
+    let good = at_end(s, l.ok, l.at);
     let peer = p.value;
     let pair = t.value;
     let message = m.value;
@@ -89,9 +89,9 @@ pub fn arrived_fields(s: &[u8], at: usize) -> ArrivedFields
     ensures { λ r. ⌜ (r .ok ≡ true → PairIn (now (s .entry)) (r .from)) ⌝ }
     ensures { λ r. ⌜ FitSpan (now (s .entry)) (r .message) ⌝ }
 {
-    let f = pair_past(s, true, at);
-    let m = span_at(s, f.ok, f.at);
-    let good = whole(s, m.ok, m.at);
+    let f = skip_pair(s, true, at);
+    let m = next_span(s, f.ok, f.at);
+    let good = at_end(s, m.ok, m.at);
     let message = m.value;
     ArrivedFields {
         ok: good,
@@ -101,18 +101,18 @@ pub fn arrived_fields(s: &[u8], at: usize) -> ArrivedFields
 }
 
 // What msg1 and replacement share: peer, pair, message, digest, epoch, msg2, lease.
-pub fn hello_at(s: &[u8], at: usize) -> HelloAt
+pub fn next_hello(s: &[u8], at: usize) -> HelloAt
     requires { ⌜ at ≤ length (now s) ⌝ }
     ensures { λ r. ⌜ Stepped hello true at (now (s .entry)) (r .ok) (helloOf (now (s .entry)) (r .hello)) (r .at) ⌝ }
     ensures { λ r. ⌜ (r .ok ≡ true → FitHello (now (s .entry)) (r .hello)) ⌝ }
 {
-    let p = peer_at(s, true, at);
-    let f = pair_past(s, p.ok, p.at);
-    let b = span_at(s, f.ok, f.at);
-    let d = digest_at(s, b.ok, b.at);
-    let e = word_at(s, d.ok, d.at);
-    let m = span_at(s, e.ok, e.at);
-    let l = lease_at(s, m.ok, m.at);
+    let p = next_peer(s, true, at);
+    let f = skip_pair(s, p.ok, p.at);
+    let b = next_span(s, f.ok, f.at);
+    let d = next_digest(s, b.ok, b.at);
+    let e = next_u64(s, d.ok, d.at);
+    let m = next_span(s, e.ok, e.at);
+    let l = next_u32(s, m.ok, m.at);
     let peer = p.value;
     let message = b.value;
     let digest = d.value;
@@ -138,9 +138,9 @@ pub fn msg1_fields(s: &[u8], at: usize) -> Msg1Fields
     ensures { λ r. ⌜ Reads msg1Fields at (now (s .entry)) (r .ok) (Call.Msg1 (helloOf (now (s .entry)) (r .hello)) (r .reachable)) ⌝ }
     ensures { λ r. ⌜ (r .ok ≡ true → FitHello (now (s .entry)) (r .hello)) ⌝ }
 {
-    let h = hello_at(s, at);
-    let f = flag_at(s, h.ok, h.at);
-    let good = whole(s, f.ok, f.at);
+    let h = next_hello(s, at);
+    let f = next_flag(s, h.ok, h.at);
+    let good = at_end(s, f.ok, f.at);
     let hello = h.hello;
     Msg1Fields {
         ok: good,
@@ -155,8 +155,8 @@ pub fn replacement_fields(s: &[u8], at: usize) -> ReplacementFields
     ensures { λ r. ⌜ Reads replacementFields at (now (s .entry)) (r .ok) (Call.Replacement (helloOf (now (s .entry)) (r .hello))) ⌝ }
     ensures { λ r. ⌜ (r .ok ≡ true → FitHello (now (s .entry)) (r .hello)) ⌝ }
 {
-    let h = hello_at(s, at);
-    let good = whole(s, h.ok, h.at);
+    let h = next_hello(s, at);
+    let good = at_end(s, h.ok, h.at);
     let hello = h.hello;
     ReplacementFields {
         ok: good,

@@ -6,11 +6,11 @@ use input_field::read_byte;
 use input_field::read_code;
 use input_field::read_digest;
 use input_field::read_flag;
-use input_field::read_lease;
+use input_field::read_u32;
 use input_field::read_message;
 use input_field::read_pair;
 use input_field::read_peer;
-use input_field::read_word;
+use input_field::read_u64;
 use node_addr::Digest;
 use node_addr::Message;
 use node_addr::NodeAddr;
@@ -39,13 +39,13 @@ pub struct DigestAt {
     pub at: usize,
 }
 
-pub struct WordAt {
+pub struct U64At {
     pub ok: bool,
     pub value: u64,
     pub at: usize,
 }
 
-pub struct LeaseAt {
+pub struct U32At {
     pub ok: bool,
     pub value: u32,
     pub at: usize,
@@ -87,7 +87,7 @@ pub struct SpanAt {
 }
 
 // A node address.
-pub fn peer_at(s: &[u8], ok: bool, at: usize) -> PeerAt
+pub fn next_peer(s: &[u8], ok: bool, at: usize) -> PeerAt
     requires { ⌜ at ≤ length (now s) ⌝ }
     ensures { λ r. ⌜ Stepped peer ok at (now (s .entry)) (r .ok) (r .value .0) (r .at) ⌝ }
 {
@@ -115,7 +115,7 @@ pub fn peer_at(s: &[u8], ok: bool, at: usize) -> PeerAt
 }
 
 // A digest.
-pub fn digest_at(s: &[u8], ok: bool, at: usize) -> DigestAt
+pub fn next_digest(s: &[u8], ok: bool, at: usize) -> DigestAt
     requires { ⌜ at ≤ length (now s) ⌝ }
     ensures { λ r. ⌜ Stepped digest ok at (now (s .entry)) (r .ok) (r .value .0) (r .at) ⌝ }
 {
@@ -143,27 +143,27 @@ pub fn digest_at(s: &[u8], ok: bool, at: usize) -> DigestAt
 }
 
 // A number of 8 bytes.
-pub fn word_at(s: &[u8], ok: bool, at: usize) -> WordAt
+pub fn next_u64(s: &[u8], ok: bool, at: usize) -> U64At
     requires { ⌜ at ≤ length (now s) ⌝ }
     ensures { λ r. ⌜ Stepped (number 8) ok at (now (s .entry)) (r .ok) (r .value) (r .at) ⌝ }
 {
-    let w = read_word(&s[at..]);
+    let w = read_u64(&s[at..]);
     let value = w.value;
     if !ok {
-        return WordAt {
+        return U64At {
             ok: false,
             value: value,
             at: at,
         };
     }
     if !w.ok {
-        return WordAt {
+        return U64At {
             ok: false,
             value: value,
             at: at,
         };
     }
-    WordAt {
+    U64At {
         ok: true,
         value: value,
         at: at + 8,
@@ -171,27 +171,27 @@ pub fn word_at(s: &[u8], ok: bool, at: usize) -> WordAt
 }
 
 // A number of 4 bytes.
-pub fn lease_at(s: &[u8], ok: bool, at: usize) -> LeaseAt
+pub fn next_u32(s: &[u8], ok: bool, at: usize) -> U32At
     requires { ⌜ at ≤ length (now s) ⌝ }
     ensures { λ r. ⌜ Stepped lease ok at (now (s .entry)) (r .ok) (r .value) (r .at) ⌝ }
 {
-    let w = read_lease(&s[at..]);
+    let w = read_u32(&s[at..]);
     let value = w.value;
     if !ok {
-        return LeaseAt {
+        return U32At {
             ok: false,
             value: value,
             at: at,
         };
     }
     if !w.ok {
-        return LeaseAt {
+        return U32At {
             ok: false,
             value: value,
             at: at,
         };
     }
-    LeaseAt {
+    U32At {
         ok: true,
         value: value,
         at: at + 4,
@@ -199,7 +199,7 @@ pub fn lease_at(s: &[u8], ok: bool, at: usize) -> LeaseAt
 }
 
 // A byte.
-pub fn byte_at(s: &[u8], ok: bool, at: usize) -> ByteAt
+pub fn next_byte(s: &[u8], ok: bool, at: usize) -> ByteAt
     requires { ⌜ at ≤ length (now s) ⌝ }
     ensures { λ r. ⌜ Stepped (number 1) ok at (now (s .entry)) (r .ok) (r .value) (r .at) ⌝ }
 {
@@ -227,7 +227,7 @@ pub fn byte_at(s: &[u8], ok: bool, at: usize) -> ByteAt
 }
 
 // A byte below k.
-pub fn code_at(s: &[u8], ok: bool, at: usize, k: u8) -> ByteAt
+pub fn next_code(s: &[u8], ok: bool, at: usize, k: u8) -> ByteAt
     requires { ⌜ 0 < k ⌝ }
     requires { ⌜ at ≤ length (now s) ⌝ }
     ensures { λ r. ⌜ Stepped (below k) ok at (now (s .entry)) (r .ok) (r .value) (r .at) ⌝ }
@@ -257,7 +257,7 @@ pub fn code_at(s: &[u8], ok: bool, at: usize, k: u8) -> ByteAt
 }
 
 // A flag.
-pub fn flag_at(s: &[u8], ok: bool, at: usize) -> FlagAt
+pub fn next_flag(s: &[u8], ok: bool, at: usize) -> FlagAt
     requires { ⌜ at ≤ length (now s) ⌝ }
     ensures { λ r. ⌜ Stepped flag ok at (now (s .entry)) (r .ok) (r .value) (r .at) ⌝ }
 {
@@ -285,7 +285,7 @@ pub fn flag_at(s: &[u8], ok: bool, at: usize) -> FlagAt
 }
 
 // A pair.
-pub fn pair_at(s: &[u8], ok: bool, at: usize) -> PairAt
+pub fn next_pair(s: &[u8], ok: bool, at: usize) -> PairAt
     requires { ⌜ at ≤ length (now s) ⌝ }
     ensures { λ r. ⌜ Stepped pair ok at (now (s .entry)) (r .ok) (viewPair (r .value)) (r .at) ⌝ }
     ensures { λ r. ⌜ FitPair (r .value) ⌝ }
@@ -315,7 +315,7 @@ pub fn pair_at(s: &[u8], ok: bool, at: usize) -> PairAt
 }
 
 // A pair, which stays where it stands.
-pub fn pair_past(s: &[u8], ok: bool, at: usize) -> PastAt
+pub fn skip_pair(s: &[u8], ok: bool, at: usize) -> PastAt
     requires { ⌜ at ≤ length (now s) ⌝ }
     ensures { λ r. ⌜ Stepped pair ok at (now (s .entry)) (r .ok) (pairHere (drop at (now (s .entry)))) (r .at) ⌝ }
     ensures { λ r. ⌜ (r .ok ≡ true → PairIn (now (s .entry)) at) ⌝ }
@@ -335,7 +335,7 @@ pub fn pair_past(s: &[u8], ok: bool, at: usize) -> PastAt
 }
 
 // A message.
-pub fn message_at(s: &[u8], ok: bool, at: usize) -> MessageAt
+pub fn next_message(s: &[u8], ok: bool, at: usize) -> MessageAt
     requires { ⌜ at ≤ length (now s) ⌝ }
     ensures { λ r. ⌜ Stepped message ok at (now (s .entry)) (r .ok) (viewMessage (r .value)) (r .at) ⌝ }
     ensures { λ r. ⌜ FitMessage (r .value) ⌝ }
@@ -365,7 +365,7 @@ pub fn message_at(s: &[u8], ok: bool, at: usize) -> MessageAt
 }
 
 // A message, which stays where it stands.
-pub fn span_at(s: &[u8], ok: bool, at: usize) -> SpanAt
+pub fn next_span(s: &[u8], ok: bool, at: usize) -> SpanAt
     requires { ⌜ at ≤ length (now s) ⌝ }
     ensures { λ r. ⌜ Stepped message ok at (now (s .entry)) (r .ok) (spanOf (now (s .entry)) (r .value)) (r .at) ⌝ }
     ensures { λ r. ⌜ FitSpan (now (s .entry)) (r .value) ⌝ }
@@ -394,7 +394,7 @@ pub fn span_at(s: &[u8], ok: bool, at: usize) -> SpanAt
 }
 
 // Whether all went well and nothing is left over.
-pub fn whole(s: &[u8], ok: bool, at: usize) -> bool
+pub fn at_end(s: &[u8], ok: bool, at: usize) -> bool
     ensures { λ r. ⌜ r ≡ ok && eqb at (length (now (s .entry))) ⌝ }
 {
     if !ok {

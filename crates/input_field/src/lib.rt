@@ -10,7 +10,7 @@ use node_addr::Pair;
 use node_addr::TransportId;
 use node_addr::place::load_digest;
 use node_addr::place::load_node;
-use node_addr::place::load_spelt;
+use node_addr::place::load_wire_pair;
 ghost use mathlib.Core.Path.{_≡_};
 ghost use mathlib.Core.Bool.{false};
 ghost use mathlib.Core.List.{[]};
@@ -26,12 +26,12 @@ pub struct ReadPeer {
     pub value: NodeAddr,
 }
 
-pub struct ReadWord {
+pub struct ReadU64 {
     pub ok: bool,
     pub value: u64,
 }
 
-pub struct ReadLease {
+pub struct ReadU32 {
     pub ok: bool,
     pub value: u32,
 }
@@ -126,34 +126,34 @@ pub fn read_digest(rest: &[u8]) -> ReadDigest
 }
 
 // A number of 8 bytes: a clock, a link, an epoch, a span.
-pub fn read_word(rest: &[u8]) -> ReadWord
+pub fn read_u64(rest: &[u8]) -> ReadU64
     ensures { λ r. ⌜ Told 0 (number 8 (now (rest .entry))) (r .ok) (r .value) 8 (now (rest .entry)) ⌝ }
 {
     if rest.len() < 8 {
-        return ReadWord {
+        return ReadU64 {
             ok: false,
             value: 0,
         };
     }
     let value = get_be(rest, 0, 8);
-    ReadWord {
+    ReadU64 {
         ok: true,
         value: value,
     }
 }
 
 // A number of 4 bytes: a lease, a count.
-pub fn read_lease(rest: &[u8]) -> ReadLease
+pub fn read_u32(rest: &[u8]) -> ReadU32
     ensures { λ r. ⌜ Told 0 (lease (now (rest .entry))) (r .ok) (r .value) 4 (now (rest .entry)) ⌝ }
 {
     if rest.len() < 4 {
-        return ReadLease {
+        return ReadU32 {
             ok: false,
             value: 0,
         };
     }
     let value = get_be(rest, 0, 4) as u32;
-    ReadLease {
+    ReadU32 {
         ok: true,
         value: value,
     }
@@ -254,7 +254,7 @@ pub fn read_pair(rest: &[u8]) -> ReadPair
     if !w.ok {
         return no_pair();
     }
-    let p = load_spelt(rest, 0);
+    let p = load_wire_pair(rest, 0);
     ReadPair { ok: true, value: p }
 }
 

@@ -1,5 +1,5 @@
 // The start of a record: length (of what follows), version 1, kind, clock.
-use input_cursor::word_at;
+use input_cursor::next_u64;
 use input_field::two_bytes;
 ghost use mathlib.Core.Bool.{true};
 ghost use Rattle.lib_laws.specs.Follow.{Stepped};
@@ -43,7 +43,7 @@ pub fn read_frame(rec: &[u8]) -> Frame
     }
 }
 
-pub struct Opening {
+pub struct Header {
     pub ok: bool,
     pub kind: u8,
     pub now: u64,
@@ -51,20 +51,20 @@ pub struct Opening {
 }
 
 // Frame and clock of a call. Its fields are from `at` on.
-pub fn read_opening(rec: &[u8]) -> Opening
+pub fn read_header(rec: &[u8]) -> Header
     ensures { λ r. ⌜ Opens (now (rec .entry)) (r .ok) (r .kind) (r .now) (r .at) ⌝ }
 {
     let f = read_frame(rec);
     if !f.ok {
-        return Opening {
+        return Header {
             ok: false,
             kind: 0,
             now: 0,
             at: 0,
         };
     }
-    let t = word_at(rec, true, f.at);
-    Opening {
+    let t = next_u64(rec, true, f.at);
+    Header {
         ok: t.ok,
         kind: f.kind,
         now: t.value,

@@ -1,10 +1,10 @@
 // The record of new: its clock, which nothing uses, me, the first link number, and the settings by their form.
-use input_cursor::byte_at;
-use input_cursor::code_at;
-use input_cursor::lease_at;
-use input_cursor::peer_at;
-use input_cursor::whole;
-use input_cursor::word_at;
+use input_cursor::next_byte;
+use input_cursor::next_code;
+use input_cursor::next_u32;
+use input_cursor::next_peer;
+use input_cursor::at_end;
+use input_cursor::next_u64;
 use input_frame::read_frame;
 use node_addr::NodeAddr;
 use params::Params;
@@ -47,17 +47,17 @@ pub struct ParamsAt {
 }
 
 // Seven spans of 8 bytes.
-pub fn spans_at(s: &[u8], ok: bool, at: usize) -> SpansAt
+pub fn next_spans(s: &[u8], ok: bool, at: usize) -> SpansAt
     requires { ⌜ at ≤ length (now s) ⌝ }
     ensures { λ r. ⌜ Spans ok at (now (s .entry)) r ⌝ }
 {
-    let unheard = word_at(s, ok, at);
-    let interval = word_at(s, unheard.ok, unheard.at);
-    let base = word_at(s, interval.ok, interval.at);
-    let cap = word_at(s, base.ok, base.at);
-    let horizon = word_at(s, cap.ok, cap.at);
-    let handshake = word_at(s, horizon.ok, horizon.at);
-    let resend = word_at(s, handshake.ok, handshake.at);
+    let unheard = next_u64(s, ok, at);
+    let interval = next_u64(s, unheard.ok, unheard.at);
+    let base = next_u64(s, interval.ok, interval.at);
+    let cap = next_u64(s, base.ok, base.at);
+    let horizon = next_u64(s, cap.ok, cap.at);
+    let handshake = next_u64(s, horizon.ok, horizon.at);
+    let resend = next_u64(s, handshake.ok, handshake.at);
     SpansAt {
         ok: resend.ok,
         unheard: unheard.value,
@@ -72,16 +72,16 @@ pub fn spans_at(s: &[u8], ok: bool, at: usize) -> SpansAt
 }
 
 // The settings of form 1: the spans, silent 4, resends 4, replays 1, counted 1, pending 8.
-pub fn settings_at(s: &[u8], ok: bool, at: usize) -> ParamsAt
+pub fn next_settings(s: &[u8], ok: bool, at: usize) -> ParamsAt
     requires { ⌜ at ≤ length (now s) ⌝ }
     ensures { λ r. ⌜ Stepped settings ok at (now (s .entry)) (r .ok) (viewParams (r .value)) (r .at) ⌝ }
 {
-    let p = spans_at(s, ok, at);
-    let silent = lease_at(s, p.ok, p.at);
-    let resends = lease_at(s, silent.ok, silent.at);
-    let replays = byte_at(s, resends.ok, resends.at);
-    let counted = byte_at(s, replays.ok, replays.at);
-    let pending = word_at(s, counted.ok, counted.at);
+    let p = next_spans(s, ok, at);
+    let silent = next_u32(s, p.ok, p.at);
+    let resends = next_u32(s, silent.ok, silent.at);
+    let replays = next_byte(s, resends.ok, resends.at);
+    let counted = next_byte(s, replays.ok, replays.at);
+    let pending = next_u64(s, counted.ok, counted.at);
     ParamsAt {
         ok: pending.ok,
         value: Params {
@@ -103,11 +103,11 @@ pub fn settings_at(s: &[u8], ok: bool, at: usize) -> ParamsAt
 }
 
 // The form: 0 takes the default, 1 the settings that follow.
-pub fn form_at(s: &[u8], ok: bool, at: usize) -> ParamsAt
+pub fn next_form(s: &[u8], ok: bool, at: usize) -> ParamsAt
     requires { ⌜ at ≤ length (now s) ⌝ }
     ensures { λ r. ⌜ Stepped form ok at (now (s .entry)) (r .ok) (viewParams (r .value)) (r .at) ⌝ }
 {
-    let f = code_at(s, ok, at, 2);
+    let f = next_code(s, ok, at, 2);
     if f.value == 0 {
         let value = default();
         return ParamsAt {
@@ -116,7 +116,7 @@ pub fn form_at(s: &[u8], ok: bool, at: usize) -> ParamsAt
             at: f.at,
         };
     }
-    settings_at(s, f.ok, f.at)
+    next_settings(s, f.ok, f.at)
 }
 
 // Whether a frame is that of new.
@@ -146,13 +146,13 @@ pub fn read_new(rec: &[u8]) -> ReadNew
     ensures { λ r. ⌜ News (now (rec .entry)) r ⌝ }
 {
     let f = read_frame(rec);
-    let t = word_at(rec, is_new(f.ok, f.kind), f.at);
-    let m = peer_at(rec, t.ok, t.at);
-    let n = word_at(rec, m.ok, m.at);
-    let p = form_at(rec, n.ok, n.at);
+    let t = next_u64(rec, is_new(f.ok, f.kind), f.at);
+    let m = next_peer(rec, t.ok, t.at);
+    let n = next_u64(rec, m.ok, m.at);
+    let p = next_form(rec, n.ok, n.at);
     let me = m.value;
     let params = p.value;
-    let number = number_of(whole(rec, p.ok, p.at), params);
+    let number = number_of(at_end(rec, p.ok, p.at), params);
     ReadNew {
         number: number,
         me: me,

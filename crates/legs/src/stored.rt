@@ -6,10 +6,10 @@ use lib_bytes::read::get_byte;
 use links_entry::read::link_count;
 use links_entry::read::no_at;
 use links_entry::read::released_at;
-use links_entry::read::setup_stands;
+use links_entry::read::setup_eq_wire;
 use node_addr::Found;
 use node_addr::LinkNo;
-use node_addr::place::pair_stands;
+use node_addr::place::eq_wire_pair;
 ghost use mathlib.Core.Path.{_≡_};
 ghost use mathlib.Core.Bool.{false};
 ghost use mathlib.Core.List.{[]};
@@ -51,7 +51,7 @@ fn proven_path(s: &[u8], j: usize, rec: &[u8], from: usize) -> bool
     if get_byte(s, at + 53) == 2 {
         return false;
     }
-    pair_stands(s, at, rec, from)
+    eq_wire_pair(s, at, rec, from)
 }
 
 // How many addresses of the i-th link are to be looked at, the setup and its paths: none where no leg yields.
@@ -78,7 +78,7 @@ fn reached(links: &[u8], i: usize, j: usize, rec: &[u8], from: usize) -> bool
         if released_at(links, i) {
             return false;
         }
-        return setup_stands(links, i, rec, from);
+        return setup_eq_wire(links, i, rec, from);
     }
     let first = i * 297 + 80;
     let end = first + 217;

@@ -15,7 +15,7 @@ use crate::layout::MSG2;
 use crate::layout::NEXT;
 use crate::layout::PEER;
 use crate::layout::REPLACES;
-use lib_bytes::compare::same_run;
+use lib_bytes::compare::eq_bytes;
 use lib_bytes::flag::get_flag;
 use lib_bytes::layout::U32;
 use lib_bytes::layout::U64;
@@ -176,5 +176,5 @@ pub fn stored_at(s: &[u8], i: usize, rec: &[u8], at: usize, n: usize) -> bool
     if k != n {
         return false;
     }
-    same_run(rec, at, s, i * LEG_WIDTH + MSG1_BYTES, n)
+    eq_bytes(rec, at, s, i * LEG_WIDTH + MSG1_BYTES, n)
 }

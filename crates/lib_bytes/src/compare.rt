@@ -9,7 +9,7 @@ ghost use Rattle.rules.specs.Base.{same};
 ghost use Rattle.rules.specs.Std.{before};
 
 // Whether n bytes of two slices are the same, byte by byte.
-fn same_rest(s: &[u8], at: usize, t: &[u8], from: usize, n: usize) -> bool
+fn eq_few(s: &[u8], at: usize, t: &[u8], from: usize, n: usize) -> bool
     requires { ⌜ at + n ≤ length (now s) ⌝ }
     requires { ⌜ from + n ≤ length (now t) ⌝ }
     ensures { λ r. ⌜ r ≡ same (take n (drop at (now (s .entry)))) (take n (drop from (now (t .entry)))) ⌝ }
@@ -25,7 +25,7 @@ fn same_rest(s: &[u8], at: usize, t: &[u8], from: usize, n: usize) -> bool
 }
 
 // Whether four to eight bytes of two slices are the same: the first four, and the last.
-pub fn same_short(s: &[u8], at: usize, t: &[u8], from: usize, n: usize) -> bool
+pub fn eq_short(s: &[u8], at: usize, t: &[u8], from: usize, n: usize) -> bool
     requires { ⌜ 4 ≤ n ⌝ }
     requires { ⌜ n ≤ 8 ⌝ }
     requires { ⌜ at + n ≤ length (now s) ⌝ }
@@ -40,7 +40,7 @@ pub fn same_short(s: &[u8], at: usize, t: &[u8], from: usize, n: usize) -> bool
 }
 
 // Whether eight bytes or more of two slices are the same: eight at a time, and the last eight.
-pub fn same_long(s: &[u8], at: usize, t: &[u8], from: usize, n: usize) -> bool
+pub fn eq_long(s: &[u8], at: usize, t: &[u8], from: usize, n: usize) -> bool
     requires { ⌜ 8 ≤ n ⌝ }
     requires { ⌜ at + n ≤ length (now s) ⌝ }
     requires { ⌜ from + n ≤ length (now t) ⌝ }
@@ -58,19 +58,19 @@ pub fn same_long(s: &[u8], at: usize, t: &[u8], from: usize, n: usize) -> bool
 }
 
 // Whether n bytes of two slices are the same.
-pub fn same_run(s: &[u8], at: usize, t: &[u8], from: usize, n: usize) -> bool
+pub fn eq_bytes(s: &[u8], at: usize, t: &[u8], from: usize, n: usize) -> bool
     requires { ⌜ at + n ≤ length (now s) ⌝ }
     requires { ⌜ from + n ≤ length (now t) ⌝ }
     ensures { λ r. ⌜ r ≡ same (take n (drop at (now (s .entry)))) (take n (drop from (now (t .entry)))) ⌝ }
 {
     if n < 8 {
-        return same_rest(s, at, t, from, n);
+        return eq_few(s, at, t, from, n);
     }
-    same_long(s, at, t, from, n)
+    eq_long(s, at, t, from, n)
 }
 
 // Whether 16 bytes of a slice come before 16 bytes of another: the first that differ decide.
-pub fn before_run(s: &[u8], at: usize, t: &[u8], from: usize) -> bool
+pub fn lt_bytes(s: &[u8], at: usize, t: &[u8], from: usize) -> bool
     requires { ⌜ at + 16 ≤ length (now s) ⌝ }
     requires { ⌜ from + 16 ≤ length (now t) ⌝ }
     ensures { λ r. ⌜ r ≡ before (take 16 (drop at (now (s .entry)))) (take 16 (drop from (now (t .entry)))) ⌝ }

@@ -1,6 +1,6 @@
 // Numbers and runs of bytes read at a place of a lent slice.
-use crate::word::turn_4;
-use crate::word::turn_8;
+use crate::word::bswap_4;
+use crate::word::bswap_8;
 use crate::word::word_4;
 use crate::word::word_8;
 ghost use mathlib.Core.Path.{_≡_};
@@ -23,7 +23,7 @@ fn get_4(s: &[u8], at: usize) -> u64
     ensures { λ r. ⌜ r ≡ more 0 (take 4 (drop at (now (s .entry)))) ⌝ }
     ensures { λ r. ⌜ r < 256 ^ 4 ⌝ }
 {
-    turn_4(word_4(s, at))
+    bswap_4(word_4(s, at))
 }
 
 // The number of eight bytes.
@@ -32,7 +32,7 @@ pub fn get_8(s: &[u8], at: usize) -> u64
     ensures { λ r. ⌜ r ≡ more 0 (take 8 (drop at (now (s .entry)))) ⌝ }
     ensures { λ r. ⌜ r < 256 ^ 8 ⌝ }
 {
-    turn_8(word_8(s, at))
+    bswap_8(word_8(s, at))
 }
 
 // The number of n bytes, byte by byte.

@@ -43,7 +43,7 @@ pub fn word_8(s: &[u8], at: usize) -> u64
 }
 
 // The last two bytes of a number in the other order; four, and eight.
-pub fn turn_2(v: u64) -> u64
+pub fn bswap_2(v: u64) -> u64
     ensures { λ r. ⌜ r ≡ more 0 (lows 2 v) ⌝ }
 {
     let a = low(v);
@@ -51,7 +51,7 @@ pub fn turn_2(v: u64) -> u64
     a * 256 + b
 }
 
-pub fn turn_4(v: u64) -> u64
+pub fn bswap_4(v: u64) -> u64
     ensures { λ r. ⌜ r ≡ more 0 (lows 4 v) ⌝ }
     ensures { λ r. ⌜ r < 256 ^ 4 ⌝ }
 {
@@ -64,7 +64,7 @@ pub fn turn_4(v: u64) -> u64
     ((a * 256 + b) * 256 + c) * 256 + d
 }
 
-pub fn turn_8(v: u64) -> u64
+pub fn bswap_8(v: u64) -> u64
     ensures { λ r. ⌜ r ≡ more 0 (lows 8 v) ⌝ }
     ensures { λ r. ⌜ r < 256 ^ 8 ⌝ }
 {

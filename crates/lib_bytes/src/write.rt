@@ -1,7 +1,7 @@
 // Numbers and runs of bytes written at a place of a lent slice; bytes cleared. A writer answers the place after what it wrote.
-use crate::word::turn_2;
-use crate::word::turn_4;
-use crate::word::turn_8;
+use crate::word::bswap_2;
+use crate::word::bswap_4;
+use crate::word::bswap_8;
 ghost use mathlib.Core.Path.{_≡_};
 ghost use mathlib.Core.List.{[], _∷_};
 ghost use Prim.Native.Nat.{_+_, _%_, _≤_, _<_};
@@ -76,13 +76,13 @@ pub fn put_be(s: &mut [u8], at: usize, v: u64, n: usize) -> usize
     ensures { λ r. ⌜ Wrote (now (s .entry)) at n (digits n v) (now (s .exit)) r ⌝ }
 {
     if n == 8 {
-        return store_8(s, at, turn_8(v));
+        return store_8(s, at, bswap_8(v));
     }
     if n == 4 {
-        return store_4(s, at, turn_4(v));
+        return store_4(s, at, bswap_4(v));
     }
     if n == 2 {
-        return store_2(s, at, turn_2(v));
+        return store_2(s, at, bswap_2(v));
     }
     put_few(s, at, v, n)
 }

@@ -1,5 +1,5 @@
 // Of crate links_entry, for those above.
-pub use links_entry::read::crowded;
+pub use links_entry::read::paths_full;
 pub use links_entry::read::find_link;
 pub use links_entry::read::get_link;
 pub use links_entry::read::in_use;

@@ -14,7 +14,7 @@ use node_addr::Found;
 use node_addr::Pair;
 use node_addr::blank_pair;
 use node_addr::place::load_pair;
-use node_addr::place::pair_here;
+use node_addr::place::eq_pair_at;
 use node_addr::place::put_pair;
 ghost use mathlib.Core.Path.{_≡_};
 ghost use mathlib.Core.Bool.{false, not};
@@ -53,7 +53,7 @@ fn proven_path(s: &[u8], j: usize, p: Pair) -> bool
     if get_byte(s, at + PATH_STATE) == PROBING {
         return false;
     }
-    pair_here(s, at, p)
+    eq_pair_at(s, at, p)
 }
 
 // Whether a path is at the pair and counts.
@@ -82,7 +82,7 @@ pub(crate) fn find_path(s: &[u8], p: Pair) -> Found
     let n = s[PATH_COUNT] as usize;
     let mut j = 0;
     while j < n {
-        if pair_here(s, j * PATH_WIDTH, p) {
+        if eq_pair_at(s, j * PATH_WIDTH, p) {
             return Found::At(j);
         }
         j += 1;
@@ -91,7 +91,7 @@ pub(crate) fn find_path(s: &[u8], p: Pair) -> Found
 }
 
 // Whether a path at the pair would be a fifth.
-pub(crate) fn full_for(s: &[u8], p: Pair) -> bool
+pub(crate) fn full_at(s: &[u8], p: Pair) -> bool
     requires { ⌜ FitPaths (now s) ⌝ }
     requires { ⌜ FitPair p ⌝ }
     ensures { λ r. ⌜ r ≡ full (viewPair p) (viewPaths (now (s .entry))) ⌝ }
@@ -167,7 +167,7 @@ fn sift(s: &mut [u8], j: usize, p: Pair) -> usize
     ensures { λ r. ⌜ FitPaths (now (s .exit)) ⌝ }
     ensures { λ r. ⌜ Sifted (λ w. not (pathAt (viewPair p) w)) (viewPaths (now (s .entry))) j (viewPaths (now (s .exit))) r ⌝ }
 {
-    if pair_here(s, j * PATH_WIDTH, p) {
+    if eq_pair_at(s, j * PATH_WIDTH, p) {
         remove_path(s, j);
         return j;
     }

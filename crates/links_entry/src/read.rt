@@ -9,7 +9,7 @@ use crate::layout::PATHS;
 use crate::layout::PATHS_LEN;
 use crate::layout::RELEASED;
 use crate::layout::SETUP;
-use crate::paths::full_for;
+use crate::paths::full_at;
 use crate::paths::load_paths;
 use crate::paths::proves;
 use crate::record::Dir;
@@ -23,8 +23,8 @@ use node_addr::LinkNo;
 use node_addr::NodeAddr;
 use node_addr::Pair;
 use node_addr::place::load_pair;
-use node_addr::place::pair_here;
-use node_addr::place::pair_stands;
+use node_addr::place::eq_pair_at;
+use node_addr::place::eq_wire_pair;
 ghost use mathlib.Core.Path.{_≡_};
 ghost use mathlib.Core.Bool.{_||_};
 ghost use Prim.Native.Nat.{_<_};
@@ -89,17 +89,17 @@ pub fn setup_is(s: &[u8], i: usize, p: Pair) -> bool
     requires { ⌜ FitPair p ⌝ }
     ensures { λ r. ⌜ r ≡ samePair (viewPair p) (getD (viewLinks (now (s .entry))) i noLink .setup) ⌝ }
 {
-    pair_here(s, i * LINK_WIDTH + SETUP, p)
+    eq_pair_at(s, i * LINK_WIDTH + SETUP, p)
 }
 
 // Whether the link at a place was set up at the pair that a record spells from `from` on.
-pub fn setup_stands(s: &[u8], i: usize, rec: &[u8], from: usize) -> bool
+pub fn setup_eq_wire(s: &[u8], i: usize, rec: &[u8], from: usize) -> bool
     requires { ⌜ FitLinks (now s) ⌝ }
     requires { ⌜ i < linkCount (now s) ⌝ }
     requires { ⌜ PairIn (now rec) from ⌝ }
     ensures { λ r. ⌜ r ≡ samePair (pairHere (drop from (now (rec .entry)))) (getD (viewLinks (now (s .entry))) i noLink .setup) ⌝ }
 {
-    pair_stands(s, i * LINK_WIDTH + SETUP, rec, from)
+    eq_wire_pair(s, i * LINK_WIDTH + SETUP, rec, from)
 }
 
 // Whether this node dialed the link at a place.
@@ -196,7 +196,7 @@ pub fn in_use(s: &[u8], p: Pair) -> bool
 }
 
 // Whether a path at the pair would be a fifth of the link at a place.
-fn crowded_at(s: &[u8], i: usize, p: Pair) -> bool
+fn paths_full_at(s: &[u8], i: usize, p: Pair) -> bool
     requires { ⌜ FitLinks (now s) ⌝ }
     requires { ⌜ i < linkCount (now s) ⌝ }
     requires { ⌜ FitPair p ⌝ }
@@ -204,17 +204,17 @@ fn crowded_at(s: &[u8], i: usize, p: Pair) -> bool
 {
     let from = i * LINK_WIDTH + PATHS;
     let end = from + PATHS_LEN;
-    full_for(&s[from..end], p)
+    full_at(&s[from..end], p)
 }
 
 // Whether a path at the pair would be a fifth of link n.
-pub fn crowded(s: &[u8], n: LinkNo, p: Pair) -> bool
+pub fn paths_full(s: &[u8], n: LinkNo, p: Pair) -> bool
     requires { ⌜ FitLinks (now s) ⌝ }
     requires { ⌜ FitPair p ⌝ }
     ensures { λ r. ⌜ r ≡ crowding (n .0) (viewPair p) (viewLinks (now (s .entry))) ⌝ }
 {
     match find_link(s, n) {
-        Found::At(i) => crowded_at(s, i, p),
+        Found::At(i) => paths_full_at(s, i, p),
         Found::Nothing => false,
     }
 }

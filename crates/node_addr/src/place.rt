@@ -10,13 +10,13 @@ use crate::layout::MESSAGE_BYTES;
 use crate::layout::MESSAGE_CAP;
 use crate::layout::PAIR_ADDR;
 use crate::layout::PAIR_LEN;
-use crate::run::same_16;
-use crate::run::same_32;
-use crate::run::same_48;
-use lib_bytes::compare::before_run;
-use lib_bytes::compare::same_long;
-use lib_bytes::compare::same_run;
-use lib_bytes::compare::same_short;
+use crate::run::eq_16;
+use crate::run::eq_32;
+use crate::run::eq_48;
+use lib_bytes::compare::lt_bytes;
+use lib_bytes::compare::eq_long;
+use lib_bytes::compare::eq_bytes;
+use lib_bytes::compare::eq_short;
 use lib_bytes::layout::U32;
 use lib_bytes::read::get_be;
 use lib_bytes::read::get_byte;
@@ -57,21 +57,21 @@ pub fn put_node(s: &mut [u8], at: usize, n: NodeAddr) -> usize
     put_16(s, at, b)
 }
 
-pub fn node_here(s: &[u8], at: usize, n: NodeAddr) -> bool
+pub fn eq_node_at(s: &[u8], at: usize, n: NodeAddr) -> bool
     requires { ⌜ at + 16 ≤ length (now s) ⌝ }
     ensures { λ r. ⌜ r ≡ same (n .0) (take 16 (drop at (now (s .entry)))) ⌝ }
 {
     let b = n.0;
-    same_16(&b, 0, s, at)
+    eq_16(&b, 0, s, at)
 }
 
 // Whether a node address comes before the one at a place.
-pub fn before_here(s: &[u8], at: usize, n: NodeAddr) -> bool
+pub fn lt_node_at(s: &[u8], at: usize, n: NodeAddr) -> bool
     requires { ⌜ at + 16 ≤ length (now s) ⌝ }
     ensures { λ r. ⌜ r ≡ before (n .0) (take 16 (drop at (now (s .entry)))) ⌝ }
 {
     let b = n.0;
-    before_run(&b, 0, s, at)
+    lt_bytes(&b, 0, s, at)
 }
 
 pub fn load_digest(s: &[u8], at: usize) -> Digest
@@ -90,12 +90,12 @@ pub fn put_digest(s: &mut [u8], at: usize, d: Digest) -> usize
     put_32(s, at, b)
 }
 
-pub fn digest_here(s: &[u8], at: usize, d: Digest) -> bool
+pub fn eq_digest_at(s: &[u8], at: usize, d: Digest) -> bool
     requires { ⌜ at + 32 ≤ length (now s) ⌝ }
     ensures { λ r. ⌜ r ≡ same (d .0) (take 32 (drop at (now (s .entry)))) ⌝ }
 {
     let b = d.0;
-    same_32(&b, 0, s, at)
+    eq_32(&b, 0, s, at)
 }
 
 pub fn load_pair(s: &[u8], at: usize) -> Pair
@@ -128,7 +128,7 @@ pub fn put_pair(s: &mut [u8], at: usize, p: Pair) -> usize
     put_48(s, n, b, ADDR_CAP)
 }
 
-pub fn pair_here(s: &[u8], at: usize, p: Pair) -> bool
+pub fn eq_pair_at(s: &[u8], at: usize, p: Pair) -> bool
     requires { ⌜ FitPair p ⌝ }
     requires { ⌜ at + pairWidth ≤ length (now s) ⌝ }
     requires { ⌜ PairCell (take pairWidth (drop at (now s))) ⌝ }
@@ -141,11 +141,11 @@ pub fn pair_here(s: &[u8], at: usize, p: Pair) -> bool
         return false;
     }
     let b = p.addr.bytes;
-    same_48(&b, 0, s, at + PAIR_ADDR)
+    eq_48(&b, 0, s, at + PAIR_ADDR)
 }
 
 // Whether the pair at a place is the one that a record spells at another: the length is among the first bytes, so that one run decides.
-pub fn pair_stands(s: &[u8], at: usize, rec: &[u8], from: usize) -> bool
+pub fn eq_wire_pair(s: &[u8], at: usize, rec: &[u8], from: usize) -> bool
     requires { ⌜ at + pairWidth ≤ length (now s) ⌝ }
     requires { ⌜ PairCell (take pairWidth (drop at (now s))) ⌝ }
     requires { ⌜ PairIn (now rec) from ⌝ }
@@ -153,13 +153,13 @@ pub fn pair_stands(s: &[u8], at: usize, rec: &[u8], from: usize) -> bool
 {
     let n = PAIR_ADDR + get_byte(rec, from + PAIR_LEN) as usize;
     if n < 8 {
-        return same_short(rec, from, s, at, n);
+        return eq_short(rec, from, s, at, n);
     }
-    same_long(rec, from, s, at, n)
+    eq_long(rec, from, s, at, n)
 }
 
 // A pair as a record spells it, by value.
-pub fn load_spelt(rec: &[u8], from: usize) -> Pair
+pub fn load_wire_pair(rec: &[u8], from: usize) -> Pair
     requires { ⌜ PairIn (now rec) from ⌝ }
     ensures { λ r. ⌜ FitPair r ⌝ }
     ensures { λ r. ⌜ viewPair r ≡ pairHere (drop from (now (rec .entry))) ⌝ }
@@ -207,5 +207,5 @@ pub fn message_here(s: &[u8], at: usize, m: Message) -> bool
         return false;
     }
     let b = m.bytes;
-    same_run(&b, 0, s, at + 1, 128)
+    eq_bytes(&b, 0, s, at + 1, 128)
 }

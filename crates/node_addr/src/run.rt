@@ -5,7 +5,7 @@ ghost use Prim.Native.Nat.{_+_, _≤_};
 ghost use lib.ListN.{length, take, drop};
 ghost use Rattle.rules.specs.Base.{same};
 
-pub fn same_16(s: &[u8], at: usize, t: &[u8], from: usize) -> bool
+pub fn eq_16(s: &[u8], at: usize, t: &[u8], from: usize) -> bool
     requires { ⌜ at + 16 ≤ length (now s) ⌝ }
     requires { ⌜ from + 16 ≤ length (now t) ⌝ }
     ensures { λ r. ⌜ r ≡ same (take 16 (drop at (now (s .entry)))) (take 16 (drop from (now (t .entry)))) ⌝ }
@@ -16,24 +16,24 @@ pub fn same_16(s: &[u8], at: usize, t: &[u8], from: usize) -> bool
     word_8(s, at + 8) == word_8(t, from + 8)
 }
 
-pub fn same_32(s: &[u8], at: usize, t: &[u8], from: usize) -> bool
+pub fn eq_32(s: &[u8], at: usize, t: &[u8], from: usize) -> bool
     requires { ⌜ at + 32 ≤ length (now s) ⌝ }
     requires { ⌜ from + 32 ≤ length (now t) ⌝ }
     ensures { λ r. ⌜ r ≡ same (take 32 (drop at (now (s .entry)))) (take 32 (drop from (now (t .entry)))) ⌝ }
 {
-    if !same_16(s, at, t, from) {
+    if !eq_16(s, at, t, from) {
         return false;
     }
-    same_16(s, at + 16, t, from + 16)
+    eq_16(s, at + 16, t, from + 16)
 }
 
-pub fn same_48(s: &[u8], at: usize, t: &[u8], from: usize) -> bool
+pub fn eq_48(s: &[u8], at: usize, t: &[u8], from: usize) -> bool
     requires { ⌜ at + 48 ≤ length (now s) ⌝ }
     requires { ⌜ from + 48 ≤ length (now t) ⌝ }
     ensures { λ r. ⌜ r ≡ same (take 48 (drop at (now (s .entry)))) (take 48 (drop from (now (t .entry)))) ⌝ }
 {
-    if !same_32(s, at, t, from) {
+    if !eq_32(s, at, t, from) {
         return false;
     }
-    same_16(s, at + 32, t, from + 32)
+    eq_16(s, at + 32, t, from + 32)
 }

@@ -4,11 +4,11 @@ use crate::Digest;
 use crate::Message;
 use crate::NodeAddr;
 use crate::Pair;
-use crate::run::same_16;
-use crate::run::same_32;
-use crate::run::same_48;
-use lib_bytes::compare::before_run;
-use lib_bytes::compare::same_run;
+use crate::run::eq_16;
+use crate::run::eq_32;
+use crate::run::eq_48;
+use lib_bytes::compare::lt_bytes;
+use lib_bytes::compare::eq_bytes;
 ghost use mathlib.Core.Path.{_≡_};
 ghost use Rattle.rules.specs.Base.{same};
 ghost use Rattle.rules.specs.Std.{before};
@@ -20,7 +20,7 @@ pub fn same_node(a: NodeAddr, b: NodeAddr) -> bool
 {
     let x = a.0;
     let y = b.0;
-    same_16(&x, 0, &y, 0)
+    eq_16(&x, 0, &y, 0)
 }
 
 pub fn node_before(a: NodeAddr, b: NodeAddr) -> bool
@@ -28,7 +28,7 @@ pub fn node_before(a: NodeAddr, b: NodeAddr) -> bool
 {
     let x = a.0;
     let y = b.0;
-    before_run(&x, 0, &y, 0)
+    lt_bytes(&x, 0, &y, 0)
 }
 
 pub fn same_digest(a: Digest, b: Digest) -> bool
@@ -36,7 +36,7 @@ pub fn same_digest(a: Digest, b: Digest) -> bool
 {
     let x = a.0;
     let y = b.0;
-    same_32(&x, 0, &y, 0)
+    eq_32(&x, 0, &y, 0)
 }
 
 pub fn same_addr(a: Addr, b: Addr) -> bool
@@ -49,7 +49,7 @@ pub fn same_addr(a: Addr, b: Addr) -> bool
     }
     let x = a.bytes;
     let y = b.bytes;
-    same_48(&x, 0, &y, 0)
+    eq_48(&x, 0, &y, 0)
 }
 
 pub fn same_pair(a: Pair, b: Pair) -> bool
@@ -75,5 +75,5 @@ pub fn same_message(a: Message, b: Message) -> bool
     }
     let x = a.bytes;
     let y = b.bytes;
-    same_run(&x, 0, &y, 0, 128)
+    eq_bytes(&x, 0, &y, 0, 128)
 }

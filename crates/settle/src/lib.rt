@@ -3,7 +3,7 @@ pub mod export;
 
 use call_contract::Answer;
 use call_step::step;
-use input_frame::read_opening;
+use input_frame::read_header;
 use input_new::read_new;
 use table_new::start;
 ghost use mathlib.Core.Path.{_≡_};
@@ -34,7 +34,7 @@ pub fn call(table: &mut [u8], input: &[u8], out: &mut [u8]) -> Answer
     if out.len() < 10240 {
         return Answer { number: 2, len: 0 };
     }
-    let r = read_opening(input);
+    let r = read_header(input);
     if !r.ok {
         return Answer { number: 3, len: 0 };
     }

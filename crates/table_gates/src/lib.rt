@@ -39,7 +39,7 @@ pub fn find_memory(t: &[u8], peer: NodeAddr) -> Found
 }
 
 // The judgement of what asks.
-pub fn judged(
+pub fn gate(
     t: &[u8],
     peer: NodeAddr,
     source: Source,
@@ -52,7 +52,7 @@ pub fn judged(
     requires { ⌜ FitTable (now t) ⌝ }
     ensures { λ r. ⌜ refusedBy r ≡ rule.gate (viewParams c) clock (asking source l digest epoch) (rule.memory (peer .0) (viewTable (now (t .entry)) .gates)) ⌝ }
 {
-    gates::calls::judged(
+    gates::calls::gate(
         &t[GATES..GATES_END],
         peer,
         source,

@@ -1,6 +1,6 @@
 // The handshake legs of the table.
 pub mod clear;
-pub mod join;
+pub mod open;
 
 use legs::poll::Wake;
 use legs_entry::layout::LEG_WIDTH;

@@ -76,12 +76,12 @@ pub fn link_proven(t: &[u8], i: usize, p: Pair) -> bool
 }
 
 // Whether a path at the pair would be a fifth of link n.
-pub fn crowded(t: &[u8], n: LinkNo, p: Pair) -> bool
+pub fn paths_full(t: &[u8], n: LinkNo, p: Pair) -> bool
     requires { ⌜ FitTable (now t) ⌝ }
     requires { ⌜ FitPair p ⌝ }
     ensures { λ r. ⌜ r ≡ settle.crowded (n .0) (viewPair p) (viewTable (now (t .entry))) ⌝ }
 {
-    links::read::crowded(&t[LINKS..LINKS_END], n, p)
+    links::read::paths_full(&t[LINKS..LINKS_END], n, p)
 }
 
 // Link n goes; its addresses that no other link uses are to close.

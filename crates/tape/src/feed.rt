@@ -1,6 +1,6 @@
 // A whole tape, record by record, of any length.
-use crate::turn::opening;
-use crate::turn::turn;
+use crate::record::run_new;
+use crate::record::run_call;
 use lib_bytes::read::get_be;
 ghost use mathlib.Core.Path.{_≡_};
 ghost use mathlib.Core.Bool.{true, false};
@@ -50,7 +50,7 @@ fn first(table: &mut [u8], buf: &[u8], n: usize, out: &mut [u8], show: bool) -> 
     requires { ⌜ length (now out) ≡ 10245 ⌝ }
     ensures { λ r. ⌜ Opens (now (table .entry)) (take n (now (buf .entry))) (now (table .exit)) (now (out .exit)) r ⌝ }
 {
-    let number = opening(table, &buf[..n], out);
+    let number = run_new(table, &buf[..n], out);
     if show {
         io::write_all(1, &out[..5]);
     }
@@ -64,7 +64,7 @@ fn next(table: &mut [u8], buf: &[u8], n: usize, out: &mut [u8], show: bool) -> u
     requires { ⌜ length (now out) ≡ 10245 ⌝ }
     ensures { λ r. ⌜ Turns (now (table .entry)) (take n (now (buf .entry))) (now (table .exit)) (now (out .exit)) r ⌝ }
 {
-    let end = turn(table, &buf[..n], out);
+    let end = run_call(table, &buf[..n], out);
     if show {
         io::write_all(1, &out[..end]);
     }

@@ -1,5 +1,5 @@
 // What the region shows, and its judgements.
-use gates::calls::judged;
+use gates::calls::gate;
 use gates::map::find_memory;
 use gates::map::memory_count;
 use gates::map::memory_of;
@@ -99,7 +99,7 @@ pub fn ask(s: &[u8], t: Step, l: Liveness)
 {
     if t.word == b'a' {
         let c = settings();
-        verdict(judged(s, node(t.a), source(t.b), l, digest(t.c), t.d, t.e, c));
+        verdict(gate(s, node(t.a), source(t.b), l, digest(t.c), t.d, t.e, c));
     }
 }
 

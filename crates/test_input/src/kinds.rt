@@ -19,8 +19,8 @@ use input_call::event::path_fields;
 use input_call::event::release_fields;
 use input_call::event::remove_fields;
 use input_call::event::restarted_fields;
-use input_cursor::whole;
-use input_frame::read_opening;
+use input_cursor::at_end;
+use input_frame::read_header;
 ghost use Prim.Native.Nat.{_≤_};
 ghost use lib.ListN.{length};
 
@@ -117,7 +117,7 @@ fn release(s: &[u8], at: usize, kind: u8, clock: u64)
 // Poll, close, wake: no field. Of another kind there is no call.
 fn bare(s: &[u8], at: usize, kind: u8, clock: u64) {
     let known = kind == 12 || kind == 13 || kind == 16;
-    opening(whole(s, known, at), kind, clock);
+    opening(at_end(s, known, at), kind, clock);
 }
 
 // Kinds 1 to 5.
@@ -172,7 +172,7 @@ fn by_kind(s: &[u8], at: usize, kind: u8, clock: u64)
 
 // Kind, clock and the kind's fields, `-` if it is no call.
 pub fn call_line(s: &[u8]) {
-    let o = read_opening(s);
+    let o = read_header(s);
     if o.ok {
         by_kind(s, o.at, o.kind, o.now);
     } else {

@@ -4,7 +4,7 @@ use node_addr::LinkNo;
 use node_addr::Message;
 use node_addr::NodeAddr;
 use node_addr::Pair;
-use node_addr::place::load_spelt;
+use node_addr::place::load_wire_pair;
 ghost use Rattle.node_addr.specs.View.{FitPair, FitMessage};
 ghost use Rattle.node_addr.specs.Place.{PairIn};
 ghost use Rattle.input_field.specs.Field.{FitSpan};
@@ -114,6 +114,6 @@ pub fn span(s: &[u8], m: Span)
 pub fn spelt(s: &[u8], from: usize)
     requires { ⌜ PairIn (now s) from ⌝ }
 {
-    let p = load_spelt(s, from);
+    let p = load_wire_pair(s, from);
     pair(p);
 }

@@ -1,7 +1,7 @@
 // The steps of links. A pair is told by its byte.
 use links::close::release;
 use links::close::retire;
-use links::read::crowded;
+use links::read::paths_full;
 use links::read::find_link;
 use links::read::in_use;
 use links::read::indexed_at;
@@ -46,7 +46,7 @@ fn path(s: &mut [u8], n: u64, b: u64)
     ensures { λ r. ⌜ FitLinks (now (s .exit)) ⌝ }
 {
     let p = pair(7, b);
-    let full = crowded(s, LinkNo(n), p);
+    let full = paths_full(s, LinkNo(n), p);
     truth(full);
     if !full {
         set_path(s, LinkNo(n), p, Proven::Acked);

@@ -24,7 +24,7 @@ loop-holds c =
 returns : tie.Need-returns Inv-loop μ-loop
 returns c =
     let y = c .before .before .before in
-    passing-hit (y .before .before .before .loop .inv) (omega arith) (rw (← y .before .get-8 .ensures .0) (sym (y .younger .ensures) ∙ c .before .before .if1 .taken)) (sym (c .before .digest-here .ensures) ∙ c .if2 .taken)
+    passing-hit (y .before .before .before .loop .inv) (omega arith) (rw (← y .before .get-8 .ensures .0) (sym (y .younger .ensures) ∙ c .before .before .if1 .taken)) (sym (c .before .eq-digest-at .ensures) ∙ c .if2 .taken)
 
 loop-again : tie.Need-loop-again Inv-loop μ-loop
 loop-again c =

@@ -11,17 +11,17 @@ returns c =
     let t = m .before in
     let w = t .before in
     news
-    (t .word-at .result .value)
-    (c .before .whole .result)
+    (t .next-u64 .result .value)
+    (c .before .at-end .result)
     (new-read
-    (c .before .whole .result)
+    (c .before .at-end .result)
     (w .before .read-frame .ensures)
     (w .is-new .ensures)
-    (t .word-at .ensures)
-    (m .peer-at .ensures)
-    (n .word-at2 .ensures)
-    (p .form-at .ensures)
-    (c .before .whole .ensures))
+    (t .next-u64 .ensures)
+    (m .next-peer .ensures)
+    (n .next-u642 .ensures)
+    (p .next-form .ensures)
+    (c .before .at-end .ensures))
     (c .number-of .ensures)
 
 pub read-new-spec : {M : Type 1} → statement M

@@ -14,18 +14,18 @@ returns c = denied-full _ _ _ _ (c .before .full .ensures) (c .if1 .taken)
 params-of-requires : tie.Need-params-of-requires
 params-of-requires c κs = c .before .before .before .pre .0
 
-judged-requires : tie.Need-judged-requires
-judged-requires c κs = c .before .before .before .before .pre .0
+gate-requires : tie.Need-gate-requires
+gate-requires c κs = c .before .before .before .before .pre .0
 
 returns-2 : tie.Need-returns-2
 returns-2 c =
     let a = c .before .before .before .before .before .before .before .args in
-    denied-pass _ _ (a .source) _ (a .digest) _ (sym (c .before .before .before .before .before .full .ensures) ∙ c .before .before .before .before .if1 .left) (c .before .before .before .params-of .ensures) (c .before .before .before .before .before .before .before .pre .1) _ (c .before .before .judged .ensures) (c .enum-told .given .1)
+    denied-pass _ _ (a .source) _ (a .digest) _ (sym (c .before .before .before .before .before .full .ensures) ∙ c .before .before .before .before .if1 .left) (c .before .before .before .params-of .ensures) (c .before .before .before .before .before .before .before .pre .1) _ (c .before .before .gate .ensures) (c .enum-told .given .1)
 
 returns-3 : tie.Need-returns-3
 returns-3 c =
     let a = c .before .before .before .before .before .before .before .before .args in
-    denied-refuse _ _ (a .source) _ (a .digest) _ (sym (c .before .before .before .before .before .before .full .ensures) ∙ c .before .before .before .before .before .if1 .left) (c .before .before .before .before .params-of .ensures) (c .before .before .before .before .before .before .before .before .pre .1) _ (c .before .before .before .judged .ensures) _ (c .before .r .given .1)
+    denied-refuse _ _ (a .source) _ (a .digest) _ (sym (c .before .before .before .before .before .before .full .ensures) ∙ c .before .before .before .before .before .if1 .left) (c .before .before .before .before .params-of .ensures) (c .before .before .before .before .before .before .before .before .pre .1) _ (c .before .before .before .gate .ensures) _ (c .before .r .given .1)
 
 pub ruled-spec : {M : Type 1} → statement M
-ruled-spec = tie.close (tie.spec full-requires returns params-of-requires judged-requires (λ c. search needs) (λ c. search needs) returns-2 returns-3)
+ruled-spec = tie.close (tie.spec full-requires returns params-of-requires gate-requires (λ c. search needs) (λ c. search needs) returns-2 returns-3)

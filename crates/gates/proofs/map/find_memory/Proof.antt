@@ -21,12 +21,12 @@ loop-holds c = scanning-start (memoryOf (c .before .before .args .peer .0)) (c .
 returns : tie.Need-returns Inv-loop μ-loop
 returns c =
     let d = c .before .before .before .before in
-    scanning-hit (c .before .before .before .loop .inv) (omega arith) (told-peer same (d .before .before .args .peer .0) (c .before .before .before .loop .i) (d .before .before .pre) (d .memory-count .ensures .0) (omega arith) (c .before .node-here .ensures) (c .if1 .taken))
+    scanning-hit (c .before .before .before .loop .inv) (omega arith) (told-peer same (d .before .before .args .peer .0) (c .before .before .before .loop .i) (d .before .before .pre) (d .memory-count .ensures .0) (omega arith) (c .before .eq-node-at .ensures) (c .if1 .taken))
 
 loop-again : tie.Need-loop-again Inv-loop μ-loop
 loop-again c =
     let d = c .before .before .before .before in
-    scanning-skip (c .before .before .before .loop .inv) (omega arith) (told-peer same (d .before .before .args .peer .0) (c .before .before .before .loop .i) (d .before .before .pre) (d .memory-count .ensures .0) (omega arith) (c .before .node-here .ensures) (c .if1 .left))
+    scanning-skip (c .before .before .before .loop .inv) (omega arith) (told-peer same (d .before .before .args .peer .0) (c .before .before .before .loop .i) (d .before .before .pre) (d .memory-count .ensures .0) (omega arith) (c .before .eq-node-at .ensures) (c .if1 .left))
 
 returns-2 : tie.Need-returns-2 Inv-loop μ-loop
 returns-2 c = scanning-end (c .before .loop .inv) (omega arith)

@@ -20,12 +20,12 @@ loop-holds c = scanning-start (after (c .before .before .args .peer .0)) (c .bef
 returns : tie.Need-returns Inv-loop μ-loop
 returns c =
     let d = c .before .before .before .before in
-    takes-here (scanning-at (c .before .before .before .loop .inv) (omega arith) (told-peer before (d .before .before .args .peer .0) (c .before .before .before .loop .i) (d .before .before .pre) (d .memory-count .ensures .0) (omega arith) (c .before .before-here .ensures) (c .if1 .taken))) (omega arith)
+    takes-here (scanning-at (c .before .before .before .loop .inv) (omega arith) (told-peer before (d .before .before .args .peer .0) (c .before .before .before .loop .i) (d .before .before .pre) (d .memory-count .ensures .0) (omega arith) (c .before .lt-node-at .ensures) (c .if1 .taken))) (omega arith)
 
 loop-again : tie.Need-loop-again Inv-loop μ-loop
 loop-again c =
     let d = c .before .before .before .before in
-    scanning-skip (c .before .before .before .loop .inv) (omega arith) (told-peer before (d .before .before .args .peer .0) (c .before .before .before .loop .i) (d .before .before .pre) (d .memory-count .ensures .0) (omega arith) (c .before .before-here .ensures) (c .if1 .left))
+    scanning-skip (c .before .before .before .loop .inv) (omega arith) (told-peer before (d .before .before .args .peer .0) (c .before .before .before .loop .i) (d .before .before .pre) (d .memory-count .ensures .0) (omega arith) (c .before .lt-node-at .ensures) (c .if1 .left))
 
 returns-2 : tie.Need-returns-2 Inv-loop μ-loop
 returns-2 c = takes-end (scanning-none (c .before .loop .inv) (omega arith)) (c .before .before .memory-count .ensures .0)

@@ -23,12 +23,12 @@ loop-holds c = scanning-start (named (c .before .before .args .peer .0)) (c .bef
 returns : tie.Need-returns Inv-loop μ-loop
 returns c =
     let l = c .before .before .before .loop in
-    finds-some (scanning-hit (l .inv) (search needs) (sym (named-here (l .inv .fit) (omega arith) (c .before .before .before .before .before .before .args .peer .0) (c .before .node-here .ensures)) ∙ c .if1 .taken))
+    finds-some (scanning-hit (l .inv) (search needs) (sym (named-here (l .inv .fit) (omega arith) (c .before .before .before .before .before .before .args .peer .0) (c .before .eq-node-at .ensures)) ∙ c .if1 .taken))
 
 loop-again : tie.Need-loop-again Inv-loop μ-loop
 loop-again c =
     let l = c .before .before .before .loop in
-    scanning-skip (l .inv) (search needs) (sym (named-here (l .inv .fit) (omega arith) (c .before .before .before .before .before .before .args .peer .0) (c .before .node-here .ensures)) ∙ c .if1 .left)
+    scanning-skip (l .inv) (search needs) (sym (named-here (l .inv .fit) (omega arith) (c .before .before .before .before .before .before .args .peer .0) (c .before .eq-node-at .ensures)) ∙ c .if1 .left)
 
 returns-2 : tie.Need-returns-2 Inv-loop μ-loop
 returns-2 c = finds-no (scanning-end (c .before .loop .inv) (search needs))

@@ -21,12 +21,12 @@ loop-holds c = scanning-start (precedes (c .before .before .args .peer .0)) (c .
 returns : tie.Need-returns Inv-loop μ-loop
 returns c =
     let l = c .before .before .before .loop in
-    slot-before (l .inv) (search needs) (sym (precedes-here (l .inv .fit) (omega arith) (c .before .before .before .before .before .before .args .peer .0) (c .before .before-here .ensures)) ∙ c .if1 .taken)
+    slot-before (l .inv) (search needs) (sym (precedes-here (l .inv .fit) (omega arith) (c .before .before .before .before .before .before .args .peer .0) (c .before .lt-node-at .ensures)) ∙ c .if1 .taken)
 
 loop-again : tie.Need-loop-again Inv-loop μ-loop
 loop-again c =
     let l = c .before .before .before .loop in
-    scanning-skip (l .inv) (search needs) (sym (precedes-here (l .inv .fit) (omega arith) (c .before .before .before .before .before .before .args .peer .0) (c .before .before-here .ensures)) ∙ c .if1 .left)
+    scanning-skip (l .inv) (search needs) (sym (precedes-here (l .inv .fit) (omega arith) (c .before .before .before .before .before .before .args .peer .0) (c .before .lt-node-at .ensures)) ∙ c .if1 .left)
 
 returns-2 : tie.Need-returns-2 Inv-loop μ-loop
 returns-2 c = slot-last (c .before .loop .inv) (search needs)

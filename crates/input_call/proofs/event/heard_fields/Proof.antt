@@ -9,8 +9,8 @@ use Rattle.input_call.proofs.event.heard_fields.Tie as tie
 returns : tie.Need-returns
 unfolding heardFields
 returns c = (
-  reads-end (follows-step _ (follows-step _ (follows-start heardFields true _ _) (c .before .before .before .peer-at .ensures)) (c .before .before .pair-past .ensures .0)) (c .before .before .pair-past .ensures .0 .room) (c .before .whole .ensures),
-  λ e. c .before .before .pair-past .ensures .1 (whole-ok _ _ (c .before .whole .ensures) e),
+  reads-end (follows-step _ (follows-step _ (follows-start heardFields true _ _) (c .before .before .before .next-peer .ensures)) (c .before .before .skip-pair .ensures .0)) (c .before .before .skip-pair .ensures .0 .room) (c .before .at-end .ensures),
+  λ e. c .before .before .skip-pair .ensures .1 (whole-ok _ _ (c .before .at-end .ensures) e),
 )
 
 pub heard-fields-spec : {M : Type 1} → statement M

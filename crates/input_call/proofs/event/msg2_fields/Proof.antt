@@ -9,7 +9,7 @@ use Rattle.input_call.proofs.event.msg2_fields.Tie as tie
 returns : tie.Need-returns
 unfolding msg2Fields
 returns c =
-    (reads-end (follows-step _ (follows-step _ (follows-step _ (follows-start msg2Fields true _ _) (c .before .before .before .before .word-at .ensures)) (c .before .before .before .word-at2 .ensures)) (c .before .before .pair-at .ensures .0)) (c .before .before .pair-at .ensures .0 .room) (c .before .whole .ensures), c .before .before .pair-at .ensures .1)
+    (reads-end (follows-step _ (follows-step _ (follows-step _ (follows-start msg2Fields true _ _) (c .before .before .before .before .next-u64 .ensures)) (c .before .before .before .next-u642 .ensures)) (c .before .before .next-pair .ensures .0)) (c .before .before .next-pair .ensures .0 .room) (c .before .at-end .ensures), c .before .before .next-pair .ensures .1)
 
 pub msg2-fields-spec : {M : Type 1} → statement M
 msg2-fields-spec = tie.close (tie.spec (λ c κs. search needs) (λ c κs. search needs) (λ c κs. search needs) (λ c κs. search needs) returns)

@@ -9,7 +9,7 @@ use Rattle.input_call.proofs.event.release_fields.Tie as tie
 returns : tie.Need-returns
 unfolding releaseFields
 returns c =
-    (reads-end (follows-step _ (follows-step _ (follows-step _ (follows-start releaseFields true _ _) (c .before .before .before .before .word-at .ensures)) (c .before .before .before .pair-at .ensures .0)) (c .before .before .flag-at .ensures)) (c .before .before .flag-at .ensures .room) (c .before .whole .ensures), c .before .before .before .pair-at .ensures .1)
+    (reads-end (follows-step _ (follows-step _ (follows-step _ (follows-start releaseFields true _ _) (c .before .before .before .before .next-u64 .ensures)) (c .before .before .before .next-pair .ensures .0)) (c .before .before .next-flag .ensures)) (c .before .before .next-flag .ensures .room) (c .before .at-end .ensures), c .before .before .before .next-pair .ensures .1)
 
 pub release-fields-spec : {M : Type 1} → statement M
 release-fields-spec = tie.close (tie.spec (λ c κs. search needs) (λ c κs. search needs) (λ c κs. search needs) (λ c κs. search needs) returns)

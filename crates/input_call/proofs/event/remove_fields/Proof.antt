@@ -12,7 +12,7 @@ use Rattle.input_call.proofs.event.remove_fields.Tie as tie
 returns : tie.Need-returns
 unfolding removeFields
 returns c =
-    (reads-end (follows-step _ (follows-step _ (follows-start removeFields true _ _) (c .before .before .before .peer-at .ensures)) (coded whys Why.Restart (c .before .before .code-at .ensures .0))) (c .before .before .code-at .ensures .0 .room) (c .before .whole .ensures), c .before .before .code-at .ensures .1)
+    (reads-end (follows-step _ (follows-step _ (follows-start removeFields true _ _) (c .before .before .before .next-peer .ensures)) (coded whys Why.Restart (c .before .before .next-code .ensures .0))) (c .before .before .next-code .ensures .0 .room) (c .before .at-end .ensures), c .before .before .next-code .ensures .1)
 
 pub remove-fields-spec : {M : Type 1} → statement M
 remove-fields-spec = tie.close (tie.spec (λ c κs. search needs) (λ c κs. search needs) (λ c κs. search needs) returns)

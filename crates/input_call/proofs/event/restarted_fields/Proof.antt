@@ -9,7 +9,7 @@ use Rattle.input_call.proofs.event.restarted_fields.Tie as tie
 returns : tie.Need-returns
 unfolding restartedFields
 returns c =
-    reads-end (follows-step _ (follows-step _ (follows-start restartedFields true _ _) (c .before .before .before .peer-at .ensures)) (c .before .before .word-at .ensures)) (c .before .before .word-at .ensures .room) (c .before .whole .ensures)
+    reads-end (follows-step _ (follows-step _ (follows-start restartedFields true _ _) (c .before .before .before .next-peer .ensures)) (c .before .before .next-u64 .ensures)) (c .before .before .next-u64 .ensures .room) (c .before .at-end .ensures)
 
 pub restarted-fields-spec : {M : Type 1} → statement M
 restarted-fields-spec = tie.close (tie.spec (λ c κs. search needs) (λ c κs. search needs) (λ c κs. search needs) returns)

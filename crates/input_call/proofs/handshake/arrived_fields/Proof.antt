@@ -9,10 +9,10 @@ use Rattle.input_call.proofs.handshake.arrived_fields.Tie as tie
 returns : tie.Need-returns
 unfolding arrivedFields
 returns c =
-    let f = c .before .before .before .pair-past .ensures in
-    let m = c .before .before .span-at .ensures in (
-      reads-end (follows-step _ (follows-step _ (follows-start arrivedFields true _ _) (f .0)) (m .0)) (m .0 .room) (c .before .whole .ensures),
-      (λ e. f .1 (stepped-ok (m .0) (whole-ok _ _ (c .before .whole .ensures) e)), m .1),
+    let f = c .before .before .before .skip-pair .ensures in
+    let m = c .before .before .next-span .ensures in (
+      reads-end (follows-step _ (follows-step _ (follows-start arrivedFields true _ _) (f .0)) (m .0)) (m .0 .room) (c .before .at-end .ensures),
+      (λ e. f .1 (stepped-ok (m .0) (whole-ok _ _ (c .before .at-end .ensures) e)), m .1),
     )
 
 pub arrived-fields-spec : {M : Type 1} → statement M

@@ -9,7 +9,7 @@ use Rattle.input_call.proofs.handshake.dial_fields.Tie as tie
 returns : tie.Need-returns
 unfolding dialFields
 returns c =
-    (reads-end (follows-step _ (follows-step _ (follows-step _ (follows-step _ (follows-start dialFields true _ _) (c .before .before .before .before .before .before .before .peer-at .ensures)) (c .before .before .before .before .before .before .pair-at .ensures .0)) (c .before .before .before .before .before .message-at .ensures .0)) (c .before .before .before .before .lease-at .ensures)) (c .before .before .before .before .lease-at .ensures .room) (c .before .before .before .whole .ensures), (c .before .before .before .before .before .before .pair-at .ensures .1, c .before .before .before .before .before .message-at .ensures .1))
+    (reads-end (follows-step _ (follows-step _ (follows-step _ (follows-step _ (follows-start dialFields true _ _) (c .before .before .before .before .before .before .before .next-peer .ensures)) (c .before .before .before .before .before .before .next-pair .ensures .0)) (c .before .before .before .before .before .next-message .ensures .0)) (c .before .before .before .before .next-u32 .ensures)) (c .before .before .before .before .next-u32 .ensures .room) (c .before .before .before .at-end .ensures), (c .before .before .before .before .before .before .next-pair .ensures .1, c .before .before .before .before .before .next-message .ensures .1))
 
 pub dial-fields-spec : {M : Type 1} → statement M
 dial-fields-spec = tie.close (tie.spec (λ c κs. search needs) (λ c κs. search needs) (λ c κs. search needs) (λ c κs. search needs) (λ c κs. search needs) returns)

@@ -15,7 +15,7 @@ returns : tie.Need-returns
 returns c = setup-released (c .before .before .before .before .before .pre .0) (c .before .before .before .before .before .pre .1 .0) (pairHere (drop (c .before .before .before .before .before .args .from) (c .before .before .before .before .before .args .rec .now))) (c .before .before .if1 .taken) (c .before .released-at .ensures) (c .if2 .taken)
 
 returns-2 : tie.Need-returns-2
-returns-2 c = setup-counts (c .before .before .before .before .before .before .pre .0) (c .before .before .before .before .before .before .pre .1 .0) (pairHere (drop (c .before .before .before .before .before .before .args .from) (c .before .before .before .before .before .before .args .rec .now))) (c .before .before .before .if1 .taken) (c .before .before .released-at .ensures) (c .before .if2 .left) (c .setup-stands .ensures)
+returns-2 c = setup-counts (c .before .before .before .before .before .before .pre .0) (c .before .before .before .before .before .before .pre .1 .0) (pairHere (drop (c .before .before .before .before .before .before .args .from) (c .before .before .before .before .before .before .args .rec .now))) (c .before .before .before .if1 .taken) (c .before .before .released-at .ensures) (c .before .if2 .left) (c .setup-eq-wire .ensures)
 
 proven-path-requires : tie.Need-proven-path-requires
 proven-path-requires c κs =

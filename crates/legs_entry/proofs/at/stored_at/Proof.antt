@@ -21,7 +21,7 @@ returns-3 c =
 
 returns-4 : tie.Need-returns-4
 returns-4 c =
-    stored-same _ _ (on (c .before .before .before .before .before .before .answers-at .ensures) (c .before .before .before .before .before .if1 .left)) (on (c .before .before .before .before .marked-at .ensures) (c .before .before .before .if2 .left)) (c .before .before .msg1-len-at .ensures) (c .before .if3 .left) (c .same-run .ensures)
+    stored-same _ _ (on (c .before .before .before .before .before .before .answers-at .ensures) (c .before .before .before .before .before .if1 .left)) (on (c .before .before .before .before .marked-at .ensures) (c .before .before .before .if2 .left)) (c .before .before .msg1-len-at .ensures) (c .before .if3 .left) (c .eq-bytes .ensures)
 
 pub stored-at-spec : {M : Type 1} → statement M
 stored-at-spec =

@@ -23,10 +23,10 @@ loop-holds : tie.Need-loop-holds Inv-loop μ-loop
 loop-holds c = scan-kept _ pathOf (c .before .before .pre .0 .kept)
 
 returns : tie.Need-returns Inv-loop μ-loop
-returns c = finds-some (scan-hit (c .before .before .before .loop .inv) [] (search needs) (sym (path-same (c .before .before .before .before .before .before .pre .0) (search needs) (viewPair (c .before .before .before .before .before .before .args .p)) (c .before .pair-here .ensures)) ∙ c .if1 .taken))
+returns c = finds-some (scan-hit (c .before .before .before .loop .inv) [] (search needs) (sym (path-same (c .before .before .before .before .before .before .pre .0) (search needs) (viewPair (c .before .before .before .before .before .before .args .p)) (c .before .eq-pair-at .ensures)) ∙ c .if1 .taken))
 
 loop-again : tie.Need-loop-again Inv-loop μ-loop
-loop-again c = scan-skip (c .before .before .before .loop .inv) [] (search needs) (sym (path-same (c .before .before .before .before .before .before .pre .0) (search needs) (viewPair (c .before .before .before .before .before .before .args .p)) (c .before .pair-here .ensures)) ∙ c .if1 .left)
+loop-again c = scan-skip (c .before .before .before .loop .inv) [] (search needs) (sym (path-same (c .before .before .before .before .before .before .pre .0) (search needs) (viewPair (c .before .before .before .before .before .before .args .p)) (c .before .eq-pair-at .ensures)) ∙ c .if1 .left)
 
 returns-2 : tie.Need-returns-2 Inv-loop μ-loop
 returns-2 c = finds-no (scan-end (c .before .loop .inv) (search needs))

@@ -7,8 +7,8 @@ use Rattle.node_addr.specs.Alike.{before-whole}
 use Rattle.node_addr.proofs.same.node_before.Statement.{statement}
 use Rattle.node_addr.proofs.same.node_before.Tie as tie
 
-before-run-requires : tie.Need-before-run-requires
-before-run-requires c κs =
+lt-bytes-requires : tie.Need-lt-bytes-requires
+lt-bytes-requires c κs =
     let v = c .before .before .before .before .args in
     let x : length (v .a .0) ≡ 16 = search needs in
     let y : length (v .b .0) ≡ 16 = search needs in
@@ -17,7 +17,7 @@ before-run-requires c κs =
 returns : tie.Need-returns
 returns c =
     let v = c .before .before .before .before .before .args in
-    before-whole 16 (v .a .0) (v .b .0) (search needs) (search needs) (c .before-run .ensures)
+    before-whole 16 (v .a .0) (v .b .0) (search needs) (search needs) (c .lt-bytes .ensures)
 
 pub node-before-spec : {M : Type 1} → statement M
-node-before-spec = tie.close (tie.spec (λ c. search needs) (λ c. search needs) before-run-requires returns)
+node-before-spec = tie.close (tie.spec (λ c. search needs) (λ c. search needs) lt-bytes-requires returns)

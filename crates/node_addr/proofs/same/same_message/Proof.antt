@@ -13,7 +13,7 @@ returns-2 : tie.Need-returns-2
 returns-2 c =
     let b = c .before .before .before .before .before in
     let p = b .before .before .before .pre in
-    same-kept (p .0 .kept) (p .1 .kept) (search needs) (c .same-run .ensures)
+    same-kept (p .0 .kept) (p .1 .kept) (search needs) (c .eq-bytes .ensures)
 
 pub same-message-spec : {M : Type 1} → statement M
 same-message-spec = tie.close (tie.spec returns (λ c. search needs) (λ c. search needs) (λ c κs. search needs) returns-2)

@@ -7,8 +7,8 @@ use Rattle.node_addr.specs.Alike.{same-whole}
 use Rattle.node_addr.proofs.same.same_node.Statement.{statement}
 use Rattle.node_addr.proofs.same.same_node.Tie as tie
 
-same-16-requires : tie.Need-same-16-requires
-same-16-requires c κs =
+eq-16-requires : tie.Need-eq-16-requires
+eq-16-requires c κs =
     let v = c .before .before .before .before .args in
     let x : length (v .a .0) ≡ 16 = search needs in
     let y : length (v .b .0) ≡ 16 = search needs in
@@ -17,7 +17,7 @@ same-16-requires c κs =
 returns : tie.Need-returns
 returns c =
     let v = c .before .before .before .before .before .args in
-    same-whole 16 (v .a .0) (v .b .0) (search needs) (search needs) (c .same-16 .ensures)
+    same-whole 16 (v .a .0) (v .b .0) (search needs) (search needs) (c .eq-16 .ensures)
 
 pub same-node-spec : {M : Type 1} → statement M
-same-node-spec = tie.close (tie.spec (λ c. search needs) (λ c. search needs) same-16-requires returns)
+same-node-spec = tie.close (tie.spec (λ c. search needs) (λ c. search needs) eq-16-requires returns)

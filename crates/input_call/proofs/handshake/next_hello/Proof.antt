@@ -1,0 +1,35 @@
+use mathlib.Core.Bool.{true}
+use Rattle.rules.specs.Record.{hello}
+use Rattle.lib_laws.specs.Follow.{follows-start, follows-step, follows-end}
+use Rattle.input_call.specs.Read.{stepped-ok}
+use borrow.Author.Needs.{needs}
+use Rattle.input_call.proofs.handshake.next_hello.Statement.{statement}
+use Rattle.input_call.proofs.handshake.next_hello.Tie as tie
+
+returns : tie.Need-returns
+unfolding hello
+returns c =
+    let b = c .before .before .before .before .before .before .before .before .next-span .ensures in
+    let m = c .before .before .before .before .before .next-span2 .ensures in
+    let x = follows-step _ (follows-step _ (follows-step _ (follows-start hello true _ _) (c .before .before .before .before .before .before .before .before .before .before .next-peer .ensures)) (c .before .before .before .before .before .before .before .before .before .skip-pair .ensures .0)) (b .0) in
+    let y = follows-step _ (follows-step _ (follows-step _ x (c .before .before .before .before .before .before .before .next-digest .ensures)) (c .before .before .before .before .before .before .next-u64 .ensures)) (m .0) in (
+      follows-end _ (follows-step _ y (c .before .before .before .before .next-u32 .ensures)) (c .before .before .before .before .next-u32 .ensures .room),
+      λ e. record {
+        pair = c .before .before .before .before .before .before .before .before .before .skip-pair .ensures .1 (stepped-ok (b .0) (stepped-ok (c .before .before .before .before .before .before .before .next-digest .ensures) (stepped-ok (c .before .before .before .before .before .before .next-u64 .ensures) (stepped-ok (m .0) (stepped-ok (c .before .before .before .before .next-u32 .ensures) e)))));
+        message = b .1;
+        msg2 = m .1;
+      },
+    )
+
+pub next-hello-spec : {M : Type 1} → statement M
+next-hello-spec =
+    tie.close
+    (tie.spec
+    (λ c κs. search needs)
+    (λ c κs. search needs)
+    (λ c κs. search needs)
+    (λ c κs. search needs)
+    (λ c κs. search needs)
+    (λ c κs. search needs)
+    (λ c κs. search needs)
+    returns)
