@@ -45,7 +45,7 @@ dated-last : (o : Option ℕ) → optional (is o) (option o 0 λ n. n) ≡ o
 dated-last none = refl
 dated-last (some n) = refl
 
-pub lives-some : (h : rule.Held) {l : Liveness} → l .held ≡ true → l .heard ≡ h .heard → l .installed ≡ h .installed → l .dated ≡ is (h .last) → l .last ≡ lastHeard h → Lives l (some h)
+pub lives-some : (h : rule.Held) {l : Liveness} → l .held ≡ true → l .heard ≡ h .heard → l .installed ≡ h .installed → l .«has_last» ≡ is (h .last) → l .last ≡ lastHeard h → Lives l (some h)
 lives-some h e a b c d = record { alike = rw (e, c, d) (a, b, dated-last (h .last)) }
 
 -- ---- the ruling

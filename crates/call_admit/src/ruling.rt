@@ -6,7 +6,7 @@ use gates_types::Verdict;
 use node_addr::Digest;
 use node_addr::NodeAddr;
 use table_gates::gate;
-use table_held::held_dated;
+use table_held::held_has_last;
 use table_held::held_heard;
 use table_held::held_installed;
 use table_held::held_last;
@@ -35,13 +35,13 @@ fn liveness_at(t: &[u8], i: usize) -> Liveness
 {
     let heard = held_heard(t, i);
     let installed = held_installed(t, i);
-    let dated = held_dated(t, i);
+    let has_last = held_has_last(t, i);
     let last = held_last(t, i);
     Liveness {
         held: true,
         heard: heard,
         installed: installed,
-        dated: dated,
+        has_last: has_last,
         last: last,
     }
 }
@@ -99,7 +99,7 @@ pub fn denied_new(t: &[u8], peer: NodeAddr, digest: Digest, epoch: u64, clock: u
         held: false,
         heard: false,
         installed: 0,
-        dated: false,
+        has_last: false,
         last: 0,
     };
     ruled(t, l, peer, digest, epoch, Source::NotHeld, clock)

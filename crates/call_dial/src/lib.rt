@@ -1,7 +1,7 @@
 // Call 1: this node dials a peer.
 use call_contract::Answer;
-use call_limits::room_refusal;
 use call_limits::numbers_exhausted;
+use call_limits::room_refusal;
 use legs::leg::dial_leg;
 use links::record::Dir;
 use node_addr::LinkNo;

@@ -4,7 +4,7 @@ use table_gates::memory_count;
 use table_held::held_count;
 use table_held::held_peer;
 use table_legs::leg_count;
-use table_legs::leg_named;
+use table_legs::leg_has_peer;
 use table_legs::leg_peer;
 ghost use mathlib.Core.Path.{_≡_};
 ghost use Prim.Native.Nat.{_+_, _<_};
@@ -20,7 +20,7 @@ fn leg_place(t: &[u8], i: usize) -> usize
     requires { ⌜ i < length (viewTable (now t) .legs) ⌝ }
     ensures { λ r. ⌜ placesFrom (viewTable (now (t .entry))) i ≡ r + placesFrom (viewTable (now (t .entry))) (i + 1) ⌝ }
 {
-    if !leg_named(t, i) {
+    if !leg_has_peer(t, i) {
         return 0;
     }
     let p = leg_peer(t, i);

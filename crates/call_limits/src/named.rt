@@ -5,7 +5,7 @@ use node_addr::same::same_node;
 use table_gates::find_memory;
 use table_held::find_held;
 use table_legs::leg_count;
-use table_legs::leg_named;
+use table_legs::leg_has_peer;
 use table_legs::leg_peer;
 ghost use mathlib.Core.Path.{_≡_};
 ghost use mathlib.Core.Bool.{true, false};
@@ -22,7 +22,7 @@ fn leg_is(t: &[u8], i: usize, peer: NodeAddr) -> bool
     requires { ⌜ i < length (viewTable (now t) .legs) ⌝ }
     ensures { λ r. ⌜ r ≡ any (same (peer .0)) (peerOf (nthLeg (viewTable (now (t .entry))) i)) ⌝ }
 {
-    if !leg_named(t, i) {
+    if !leg_has_peer(t, i) {
         return false;
     }
     let q = leg_peer(t, i);

@@ -23,9 +23,9 @@ use table_layout::head::me_of;
 use table_legs::drop_leg;
 use table_legs::find_leg;
 use table_legs::leg_answers;
+use table_legs::leg_has_peer;
 use table_legs::leg_lease;
 use table_legs::leg_link;
-use table_legs::leg_named;
 use table_legs::leg_peer;
 use table_links::hold_link;
 use table_links::retire_link;
@@ -76,9 +76,9 @@ pub fn dialed(
         epoch: epoch,
         installed: clock,
         heard: true,
-        dated: false,
+        has_last: false,
         last: 0,
-        answered: false,
+        has_setup: false,
         setup: setup,
         current: from,
     };
@@ -237,7 +237,7 @@ pub fn msg2(
     if leg_answers(t, i) {
         return at;
     }
-    if !leg_named(t, i) {
+    if !leg_has_peer(t, i) {
         return at;
     }
     complete(t, out, at, i, n, epoch, from, clock)

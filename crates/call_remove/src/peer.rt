@@ -10,8 +10,8 @@ use output_record::put::put_retry;
 use table_gates::ended;
 use table_held::drop_held;
 use table_held::find_held;
-use table_held::held_answered;
 use table_held::held_epoch;
+use table_held::held_has_setup;
 use table_held::held_heard;
 use table_held::held_link;
 use table_held::held_setup;
@@ -74,10 +74,10 @@ pub fn count_silence(t: &mut [u8], i: usize, peer: NodeAddr, clock: u64)
         return;
     }
     let epoch = held_epoch(t, i);
-    let answered = held_answered(t, i);
+    let has_setup = held_has_setup(t, i);
     let setup = held_setup(t, i);
     let c = params_of(t);
-    ended(t, peer, epoch, answered, setup, clock, c);
+    ended(t, peer, epoch, has_setup, setup, clock, c);
 }
 
 // Link n goes, and its retirement is written, with what is to close or without.

@@ -50,7 +50,7 @@ pub record Unheard (h : held.Held) (now : ℕ) (g : Leg) (r : LinkRec) : Type 0 
 
 pub unheard-is : {now : ℕ} {g : Leg} {r : LinkRec} {n : linkno.LinkNo} {p : nodeaddr.NodeAddr} {e : ℕ} {d : digest.Digest} {w : pair.Pair}
     → n .0 ≡ g .link → p .0 ≡ namedPeer g → e ≡ answerOf g .epoch → d .0 ≡ answerOf g .ephemeral → viewPair w ≡ r .setup → length (p .0) ≡ 16 → length (d .0) ≡ 32 → FitPair w
-    → Unheard (record { peer = p; link = n; epoch = e; installed = now; heard = false; dated = false; last = 0; answered = true; setup = d; current = w }) now g r
+    → Unheard (record { peer = p; link = n; epoch = e; installed = now; heard = false; «has_last» = false; last = 0; «has_setup» = true; setup = d; current = w }) now g r
 unheard-is {now} {g} {r} {n} {p} {e} {d} {w} a b c f s k l v = record {
   fit = record { peer = k; setup = l; current = v; undated = λ q. refl; unanswered = λ q. cc };
   shows =

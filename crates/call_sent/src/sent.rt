@@ -14,9 +14,9 @@ use table_legs::find_leg;
 use table_legs::leg_answers;
 use table_legs::leg_digest;
 use table_legs::leg_epoch;
+use table_legs::leg_has_peer;
 use table_legs::leg_lease;
 use table_legs::leg_link;
-use table_legs::leg_named;
 use table_legs::leg_peer;
 use table_legs::leg_replaces;
 use table_legs::mark_sent;
@@ -79,9 +79,9 @@ fn unheard(t: &[u8], i: usize, j: usize, clock: u64) -> Held
         epoch: epoch,
         installed: clock,
         heard: false,
-        dated: false,
+        has_last: false,
         last: 0,
-        answered: true,
+        has_setup: true,
         setup: digest,
         current: setup,
     }
@@ -121,7 +121,7 @@ fn answer_sent(t: &mut [u8], out: &mut [u8], at: usize, i: usize, n: LinkNo, clo
     requires { ⌜ Space (now out) at ((rule.sent clock (n .0) (viewTable (now t))) .outs) ⌝ }
     ensures { λ r. ⌜ Did (now (out .entry)) at (now (t .exit)) (now (out .exit)) r (rule.sent clock (n .0) (viewTable (now (t .entry)))) ⌝ }
 {
-    if !leg_named(t, i) {
+    if !leg_has_peer(t, i) {
         return at;
     }
     let peer = leg_peer(t, i);

@@ -70,12 +70,12 @@ module _ (c d : Bytes) (f : FitEntry c) (g : FitEntry d) (h : length c ≡ memor
           → (take 1 (drop 25 c) ≡ take 1 (drop 25 d)) × (take silenceLen (drop 26 c) ≡ take silenceLen (drop 26 d))
       go true true p q z =
           let w : silenceOf (take silenceLen (drop 26 c)) ≡ silenceOf (take silenceLen (drop 26 d)) = cc in (
-            flag-same (f .silent) (g .silent) (p ∙ sym q),
+            flag-same (f .«has_silence») (g .«has_silence») (p ∙ sym q),
             silence-same (take silenceLen (drop 26 c)) (take silenceLen (drop 26 d)) (f .silence) (g .silence) (cell-size silenceLen 26 c (omega arith)) (cell-size silenceLen 26 d (omega arith)) (cell-bytes silenceLen 26 c a) (cell-bytes silenceLen 26 d b) w,
           )
       go true false p q z = let n : _≡_ {A = ℕ} 0 1 = cc in absurd (omega arith)
       go false true p q z = let n : _≡_ {A = ℕ} 0 1 = cc in absurd (omega arith)
-      go false false p q z = (flag-same (f .silent) (g .silent) (p ∙ sym q), f .quiet p ∙ sym (g .quiet q))
+      go false false p q z = (flag-same (f .«has_silence») (g .«has_silence») (p ∙ sym q), f .quiet p ∙ sym (g .quiet q))
 
   entry-same : entryOf c ≡ entryOf d → c ≡ d
   unfolding sum

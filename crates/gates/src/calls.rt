@@ -3,10 +3,9 @@ use crate::map::find_memory;
 use crate::map::memory_of;
 use crate::map::replace_memory;
 use crate::map::store_memory;
-use gates_entry::layout::HAS_SILENCE;
-use gates_entry::layout::HAS_STAMP;
-use gates_entry::layout::MEMORY_REPLAY_COUNT;
-use gates_entry::layout::MEMORY_WIDTH;
+use gates_entry::at::has_silence_at;
+use gates_entry::at::has_stamp_at;
+use gates_entry::at::replay_count_at;
 use gates_entry::load::get_memory;
 use gates_judge::gate;
 use gates_judge::gate_blank;
@@ -17,7 +16,6 @@ use gates_memory::stamped_at;
 use gates_types::Liveness;
 use gates_types::Source;
 use gates_types::Verdict;
-use lib_bytes::flag::get_flag;
 use node_addr::Digest;
 use node_addr::Found;
 use node_addr::NodeAddr;
@@ -49,12 +47,12 @@ pub fn promoted(s: &mut [u8], peer: NodeAddr, digest: Digest, clock: u64, c: Par
     store_memory(s, x);
 }
 
-// A session of the peer ended unheard; `setup` is the digest of the msg1 that it came from, if it came from one (`answered`).
+// A session of the peer ended unheard; `setup` is the digest of the msg1 that it came from, if it came from one (`has_setup`).
 pub fn ended(
     s: &mut [u8],
     peer: NodeAddr,
     epoch: u64,
-    answered: bool,
+    has_setup: bool,
     setup: Digest,
     clock: u64,
     c: Params,
@@ -65,10 +63,10 @@ pub fn ended(
     requires { ⌜ FitParams c ⌝ }
     requires { ⌜ Room (peer .0) (viewGates (now s)) (gateCount (now s)) ⌝ }
     ensures { λ r. ⌜ FitGates (now (s .exit)) ⌝ }
-    ensures { λ r. ⌜ viewGates (now (s .exit)) ≡ rule.store (rule.ended (viewParams c) clock (some epoch) (optional answered (setup .0)) (rule.memory (peer .0) (viewGates (now (s .entry))))) (viewGates (now (s .entry))) ⌝ }
+    ensures { λ r. ⌜ viewGates (now (s .exit)) ≡ rule.store (rule.ended (viewParams c) clock (some epoch) (optional «has_setup» (setup .0)) (rule.memory (peer .0) (viewGates (now (s .entry))))) (viewGates (now (s .entry))) ⌝ }
 {
     let m = memory_of(s, peer);
-    let x = ended_by(m, epoch, answered, setup, clock, c);
+    let x = ended_by(m, epoch, has_setup, setup, clock, c);
     store_memory(s, x);
 }
 
@@ -85,20 +83,19 @@ pub fn stamp(s: &mut [u8], peer: NodeAddr, clock: u64)
     store_memory(s, x);
 }
 
-// Whether the i-th memory has a stamp and nothing else, told by three bytes.
+// Whether the i-th memory has a stamp and nothing else.
 fn is_still(s: &[u8], i: usize) -> bool
     requires { ⌜ FitGates (now s) ⌝ }
     requires { ⌜ i < gateCount (now s) ⌝ }
     ensures { λ r. ⌜ r ≡ still (memoryAt (now (s .entry)) i) ⌝ }
 {
-    let a = i * MEMORY_WIDTH;
-    if !get_flag(s, a + HAS_STAMP) {
+    if !has_stamp_at(s, i) {
         return false;
     }
-    if s[a + MEMORY_REPLAY_COUNT] != 0 {
+    if replay_count_at(s, i) != 0 {
         return false;
     }
-    !get_flag(s, a + HAS_SILENCE)
+    !has_silence_at(s, i)
 }
 
 // The i-th memory cleared.

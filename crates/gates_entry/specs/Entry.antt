@@ -28,13 +28,13 @@ use Rattle.gates_types.specs.declared.Silence.{Silence}
 use Rattle.gates_types.specs.declared.Memory.{Memory}
 use Rattle.gates_types.specs.View.{optional, viewReplay, viewReplays, viewDigest, viewDigests, viewSilence, viewMemory, blankReplay, blankSilence, FitReplay, FitDigest, FitReplays, FitDigests, WideSilence, FitSilence, FitMemory}
 use Rattle.node_addr.specs.Layout.{digestLen}
-use Rattle.gates_entry.specs.Layout.{entryWs, silenceWs, atReplays, atSeen, digestCap, digestsLen, memoryWidth, replayCap, replayWidth, replaysLen, silenceLen}
+use Rattle.gates_entry.specs.Layout.{entryWs, silenceWs, atCount, atCounted, atHasSilence, atHasStamp, atHasUntil, atReplays, atSeen, atSilence, atSilenceEpoch, atSilenceLast, atStamp, atUntil, digestCap, digestsLen, memoryWidth, replayCap, replayWidth, replaysLen, silenceLen}
 use Rattle.gates_entry.specs.Rows.{AnyBytes, cuts-part, row-size, row-store, row-shows}
 use Rattle.gates_entry.specs.View.{replayOf, digestOf, silenceFrom, silenceOf, SilenceCells, FitSilenceCell, entryFrom, entryOf, FitCells, FitEntry, FitGates, gateCount, noMemory, memoryAt}
 
 -- ---- a replay and a digest at a place
 abbrev pub replayAt : Bytes → ℕ → Replay
-replayAt s at = record { digest = record { 0 = take 32 (drop at s) }; seen = num (take 8 (drop (at + 32) s)) }
+replayAt s at = record { digest = record { 0 = take 32 (drop at s) }; seen = num (take 8 (drop (at + atSeen) s)) }
 
 abbrev pub replayIn : Bytes → Replay
 replayIn c = record { digest = record { 0 = take 32 c }; seen = num (take 8 (drop 32 c)) }
@@ -123,7 +123,7 @@ module _ (d : Digests) (f : FitDigests d) where
 
 -- ---- a silence written
 abbrev silenceFields : Silence → List Bytes
-silenceFields x = (one (x .known) ∷ []) ∷ digits 8 (x .epoch) ∷ digits 4 (x .count) ∷ digits 8 (x .last) ∷ (one (x .refusing) ∷ []) ∷ digits 8 (x .until) ∷ digestsBytes (x .counted) ∷ []
+silenceFields x = (one (x .«has_epoch») ∷ []) ∷ digits 8 (x .epoch) ∷ digits 4 (x .count) ∷ digits 8 (x .last) ∷ (one (x .«has_until») ∷ []) ∷ digits 8 (x .until) ∷ digestsBytes (x .counted) ∷ []
 
 unfoldable pub silenceBytes : Silence → Bytes
 silenceBytes x = joined (silenceFields x)
@@ -131,7 +131,7 @@ silenceBytes x = joined (silenceFields x)
 -- as the writers put it
 abbrev pub silenceRow : Silence → Bytes
 silenceRow x =
-    (one (x .known) ∷ []) ++ digits 8 (x .epoch) ++ digits 4 (x .count) ++ digits 8 (x .last) ++ (one (x .refusing) ∷ []) ++ digits 8 (x .until) ++ digestsBytes (x .counted)
+    (one (x .«has_epoch») ∷ []) ++ digits 8 (x .epoch) ++ digits 4 (x .count) ++ digits 8 (x .last) ++ (one (x .«has_until») ∷ []) ++ digits 8 (x .until) ++ digestsBytes (x .counted)
 
 silence-spelt : (x : Silence) → silenceRow x ≡ silenceBytes x
 unfolding silenceBytes joined
@@ -160,8 +160,8 @@ module _ (x : Silence) (f : FitSilence x) where
   fit-silence : FitSilenceCell (silenceBytes x)
   fit-silence = record {
     cells = subst SilenceCells (sym silence-cells) (record {
-      epoch = optional-number (x .known) (x .epoch) (f .unknown);
-      until = optional-number (x .refusing) (x .until) (f .lifted);
+      epoch = optional-number (x .«has_epoch») (x .epoch) (f .unknown);
+      until = optional-number (x .«has_until») (x .until) (f .lifted);
       counted = digests-store (x .counted) (f .counted);
     });
   }
@@ -172,11 +172,11 @@ module _ (x : Silence) (f : FitSilence x) where
       let b = f .wide in
       ap silenceFrom silence-cells
       ∙ rw (
-        flag-shows (x .known),
+        flag-shows (x .«has_epoch»),
         more-digits 8 (x .epoch) (b .epoch .fits),
         more-digits 4 (x .count) (b .count .fits),
         more-digits 8 (x .last) (b .last .fits),
-        flag-shows (x .refusing),
+        flag-shows (x .«has_until»),
         more-digits 8 (x .until) (b .until .fits),
         digests-show (x .counted) (f .counted),
       )
@@ -187,13 +187,13 @@ silence-blank = refl
 
 -- ---- a memory written
 abbrev entryFields : Memory → List Bytes
-entryFields m = m .peer .0 ∷ (one (m .stamped) ∷ []) ∷ digits 8 (m .stamp) ∷ (one (m .silent) ∷ []) ∷ silenceBytes (m .silence) ∷ replaysBytes (m .replays) ∷ []
+entryFields m = m .peer .0 ∷ (one (m .«has_stamp») ∷ []) ∷ digits 8 (m .stamp) ∷ (one (m .«has_silence») ∷ []) ∷ silenceBytes (m .silence) ∷ replaysBytes (m .replays) ∷ []
 
 unfoldable pub memoryBytes : Memory → Bytes
 memoryBytes m = joined (entryFields m)
 
 abbrev pub frontRow : Memory → Bytes
-frontRow m = m .peer .0 ++ (one (m .stamped) ∷ []) ++ digits 8 (m .stamp) ++ (one (m .silent) ∷ [])
+frontRow m = m .peer .0 ++ (one (m .«has_stamp») ∷ []) ++ digits 8 (m .stamp) ++ (one (m .«has_silence») ∷ [])
 
 memory-spelt : (m : Memory) → frontRow m ++ silenceBytes (m .silence) ++ replaysBytes (m .replays) ≡ memoryBytes m
 unfolding memoryBytes joined
@@ -213,10 +213,10 @@ module _ (m : Memory) (f : FitMemory m) where
 
   pub fit-memory : FitEntry (memoryBytes m)
   fit-memory = subst FitCells (sym memory-cells) (record {
-    stamp = optional-number (m .stamped) (m .stamp) (f .unstamped);
-    silent = flag-code (m .silent);
+    stamp = optional-number (m .«has_stamp») (m .stamp) (f .unstamped);
+    «has_silence» = flag-code (m .«has_silence»);
     silence = fit-silence (m .silence) (f .silence);
-    quiet = λ e. ap silenceBytes (f .quiet (sym (flag-shows (m .silent)) ∙ e)) ∙ silence-blank;
+    quiet = λ e. ap silenceBytes (f .quiet (sym (flag-shows (m .«has_silence»)) ∙ e)) ∙ silence-blank;
     replays = replays-store (m .replays) (f .replays);
   })
 
@@ -224,24 +224,24 @@ module _ (m : Memory) (f : FitMemory m) where
   memory-shows b =
       ap entryFrom memory-cells
       ∙ rw (
-        flag-shows (m .stamped),
+        flag-shows (m .«has_stamp»),
         more-digits 8 (m .stamp) (b .fits),
-        flag-shows (m .silent),
+        flag-shows (m .«has_silence»),
         silence-shows (m .silence) (f .silence),
         replays-show (m .replays) (f .replays),
       )
 
 -- ---- a silence read at a
 pub record LoadedSilence (r : Silence) (a : ℕ) (s : Bytes) : Type 0 where
-  pub known : r .known ≡ flagOf (take 1 (drop a s))
-  pub epoch : r .epoch ≡ num (take 8 (drop (a + 1) s))
-  pub count : r .count ≡ num (take 4 (drop (a + 9) s))
-  pub last : r .last ≡ num (take 8 (drop (a + 13) s))
-  pub refusing : r .refusing ≡ flagOf (take 1 (drop (a + 21) s))
-  pub until : r .until ≡ num (take 8 (drop (a + 22) s))
+  pub «has_epoch» : r .«has_epoch» ≡ flagOf (take 1 (drop a s))
+  pub epoch : r .epoch ≡ num (take 8 (drop (a + atSilenceEpoch) s))
+  pub count : r .count ≡ num (take 4 (drop (a + atCount) s))
+  pub last : r .last ≡ num (take 8 (drop (a + atSilenceLast) s))
+  pub «has_until» : r .«has_until» ≡ flagOf (take 1 (drop (a + atHasUntil) s))
+  pub until : r .until ≡ num (take 8 (drop (a + atUntil) s))
   pub wide : WideSilence r
   pub fits : FitDigests (r .counted)
-  pub counted : viewDigests (r .counted) ≡ entries digestOf digestLen digestCap (take digestsLen (drop (a + 30) s))
+  pub counted : viewDigests (r .counted) ≡ entries digestOf digestLen digestCap (take digestsLen (drop (a + atCounted) s))
 
 -- where the flag is not set
 clear : {f s : Bytes} {b : Bool} {v : ℕ} → Optional 8 f s → b ≡ flagOf f → v ≡ num s → b ≡ false → v ≡ 0
@@ -256,7 +256,7 @@ module _ (s : Bytes) (at : ℕ) where
   silence-there : FitSilenceCell (take silenceLen (drop at s)) → SilenceCells (cuts at 0 silenceWs s)
   silence-there f = subst SilenceCells silence-cuts (f .cells)
 
-  pub counted-cell : FitSilenceCell (take silenceLen (drop at s)) → Store AnyBytes digestLen digestCap (take digestsLen (drop (at + 30) s))
+  pub counted-cell : FitSilenceCell (take silenceLen (drop at s)) → Store AnyBytes digestLen digestCap (take digestsLen (drop (at + atCounted) s))
   counted-cell f = silence-there f .counted
 
   pub silence-loaded : {r : Silence} → FitSilenceCell (take silenceLen (drop at s)) → LoadedSilence r at s → FitSilence r × (viewSilence r ≡ silenceOf (take silenceLen (drop at s)))
@@ -264,20 +264,20 @@ module _ (s : Bytes) (at : ℕ) where
   silence-loaded {r} f l =
       let z : at + 0 ≡ at = add-zero at in
       let k = rw z at (silence-there f) in
-      let v : viewSilence r ≡ silenceFrom (cuts at 0 silenceWs s) = rw (l .known, l .epoch, l .count, l .last, l .refusing, l .until, l .counted, z) in (
-        record { wide = l .wide; unknown = clear (k .epoch) (l .known) (l .epoch); lifted = clear (k .until) (l .refusing) (l .until); counted = l .fits },
+      let v : viewSilence r ≡ silenceFrom (cuts at 0 silenceWs s) = rw (l .«has_epoch», l .epoch, l .count, l .last, l .«has_until», l .until, l .counted, z) in (
+        record { wide = l .wide; unknown = clear (k .epoch) (l .«has_epoch») (l .epoch); lifted = clear (k .until) (l .«has_until») (l .until); counted = l .fits },
         v ∙ ap silenceFrom (sym silence-cuts),
       )
 
 -- ---- a memory read at a
 pub record Loaded (r : Memory) (a : ℕ) (s : Bytes) : Type 0 where
   pub peer : r .peer .0 ≡ take 16 (drop a s)
-  pub stamped : r .stamped ≡ flagOf (take 1 (drop (a + 16) s))
-  pub stamp : r .stamp ≡ num (take 8 (drop (a + 17) s))
-  pub silent : r .silent ≡ flagOf (take 1 (drop (a + 25) s))
+  pub «has_stamp» : r .«has_stamp» ≡ flagOf (take 1 (drop (a + atHasStamp) s))
+  pub stamp : r .stamp ≡ num (take 8 (drop (a + atStamp) s))
+  pub «has_silence» : r .«has_silence» ≡ flagOf (take 1 (drop (a + atHasSilence) s))
   pub fit : FitSilence (r .silence)
-  pub blank : r .silent ≡ false → r .silence ≡ blankSilence
-  pub silence : optional (r .silent) (viewSilence (r .silence)) ≡ optional (r .silent) (silenceOf (take silenceLen (drop (a + 26) s)))
+  pub blank : r .«has_silence» ≡ false → r .silence ≡ blankSilence
+  pub silence : optional (r .«has_silence») (viewSilence (r .silence)) ≡ optional (r .«has_silence») (silenceOf (take silenceLen (drop (a + atSilence) s)))
   pub fits : FitReplays (r .replays)
   pub replays : viewReplays (r .replays) ≡ entries replayOf replayWidth replayCap (take replaysLen (drop (a + atReplays) s))
 
@@ -299,10 +299,10 @@ module _ (s : Bytes) (i : ℕ) (f : FitGates s) (h : i < gateCount s) where
   memory-loaded {r} l =
       let z : i * memoryWidth + 0 ≡ i * memoryWidth = add-zero (i * memoryWidth) in
       let k = memory-there in
-      let v : viewMemory r ≡ entryFrom (cuts (i * memoryWidth) 0 entryWs s) = rw (l .peer, l .stamped, l .stamp, l .silence, l .replays, l .silent, z) in (
+      let v : viewMemory r ≡ entryFrom (cuts (i * memoryWidth) 0 entryWs s) = rw (l .peer, l .«has_stamp», l .stamp, l .silence, l .replays, l .«has_silence», z) in (
         record {
           peer = rw (l .peer) (length-take-le 16 (drop (i * memoryWidth) s) (rw length-drop (omega arith)));
-          unstamped = clear (k .stamp) (l .stamped) (l .stamp);
+          unstamped = clear (k .stamp) (l .«has_stamp») (l .stamp);
           replays = l .fits;
           silence = l .fit;
           quiet = l .blank;

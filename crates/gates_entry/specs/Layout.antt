@@ -1,5 +1,5 @@
 -- A memory's entry and the region of them, as src/layout.rt has them.
-use Prim.Native.Nat.{ℕ, _+_, _*_}
+use Prim.Native.Nat.{ℕ, _*_}
 use mathlib.Core.Path.{_≡_, refl}
 use mathlib.Core.List.{List, [], _∷_}
 use Rattle.lib_laws.specs.Fields.{ends}
@@ -75,9 +75,6 @@ atSilence = 26
 abbrev pub atReplays : ℕ
 atReplays = 313
 
-abbrev pub atMemoryReplayCount : ℕ
-atMemoryReplayCount = 633
-
 abbrev pub memoryWidth : ℕ
 memoryWidth = 634
 
@@ -109,6 +106,3 @@ digest-count = refl
 
 pub memory-count : ends 0 (memoryCap * memoryWidth ∷ 1 ∷ []) ≡ atMemoryCount ∷ gatesLen ∷ []
 memory-count = refl
-
-pub memory-replay-count : atReplays + atReplayCount ≡ atMemoryReplayCount
-memory-replay-count = refl

@@ -62,7 +62,7 @@ entryOf c = entryFrom (cuts 0 0 entryWs c)
 
 pub record FitCells (fs : List Bytes) : Type 0 where
   pub stamp : Optional 8 (cell fs 1) (cell fs 2)
-  pub silent : Code 2 (cell fs 3)
+  pub «has_silence» : Code 2 (cell fs 3)
   pub silence : FitSilenceCell (cell fs 4)
   pub quiet : flagOf (cell fs 3) ≡ false → cell fs 4 ≡ replicate silenceLen 0
   pub replays : Store AnyBytes replayWidth replayCap (cell fs 5)
@@ -97,7 +97,7 @@ fit-zero-silence = record { cells = record { epoch = no-number; until = no-numbe
 pub fit-zeros : FitEntry (replicate memoryWidth 0)
 fit-zeros = record {
   stamp = no-number;
-  silent = record { size = refl; low = lit< tt };
+  «has_silence» = record { size = refl; low = lit< tt };
   silence = fit-zero-silence;
   quiet = λ e. refl;
   replays = store-zeros AnyBytes replayWidth replayCap tt;

@@ -48,8 +48,6 @@ pub const SILENCE: usize = HAS_SILENCE + 1;
 
 pub const REPLAYS: usize = SILENCE + SILENCE_LEN;
 
-pub const MEMORY_REPLAY_COUNT: usize = REPLAYS + REPLAY_COUNT;
-
 pub const MEMORY_WIDTH: usize = REPLAYS + REPLAYS_LEN;
 
 pub const MEMORY_CAP: usize = 32;

@@ -102,33 +102,33 @@ fn load_silence(s: &[u8], at: usize) -> Silence
     ensures { λ r. ⌜ FitSilence r ⌝ }
     ensures { λ r. ⌜ viewSilence r ≡ silenceOf (take silenceLen (drop at (now (s .entry)))) ⌝ }
 {
-    let known = get_flag(s, at);
+    let has_epoch = get_flag(s, at);
     let epoch = get_be(s, at + EPOCH, U64);
     let count = get_be(s, at + COUNT, U32) as u32;
     let last = get_be(s, at + LAST, U64);
-    let refusing = get_flag(s, at + HAS_UNTIL);
+    let has_until = get_flag(s, at + HAS_UNTIL);
     let until = get_be(s, at + UNTIL, U64);
     let counted = load_digests(s, at + COUNTED);
     Silence {
-        known: known,
+        has_epoch: has_epoch,
         epoch: epoch,
         count: count,
         last: last,
-        refusing: refusing,
+        has_until: has_until,
         until: until,
         counted: counted,
     }
 }
 
 // The silence, if there is one.
-fn load_silent(s: &[u8], at: usize, silent: bool) -> Silence
+fn load_silent(s: &[u8], at: usize, has_silence: bool) -> Silence
     requires { ⌜ at + silenceLen ≤ length (now s) ⌝ }
     requires { ⌜ FitSilenceCell (take silenceLen (drop at (now s))) ⌝ }
     ensures { λ r. ⌜ FitSilence r ⌝ }
-    ensures { λ r. ⌜ (silent ≡ false → r ≡ blankSilence) ⌝ }
-    ensures { λ r. ⌜ optional silent (viewSilence r) ≡ optional silent (silenceOf (take silenceLen (drop at (now (s .entry))))) ⌝ }
+    ensures { λ r. ⌜ («has_silence» ≡ false → r ≡ blankSilence) ⌝ }
+    ensures { λ r. ⌜ optional «has_silence» (viewSilence r) ≡ optional «has_silence» (silenceOf (take silenceLen (drop at (now (s .entry))))) ⌝ }
 {
-    if silent {
+    if has_silence {
         return load_silence(s, at);
     }
     blank_silence()
@@ -143,17 +143,17 @@ pub fn get_memory(s: &[u8], i: usize) -> Memory
 {
     let a = i * MEMORY_WIDTH;
     let peer = load_node(s, a);
-    let stamped = get_flag(s, a + HAS_STAMP);
+    let has_stamp = get_flag(s, a + HAS_STAMP);
     let stamp = get_be(s, a + STAMP, U64);
-    let silent = get_flag(s, a + HAS_SILENCE);
-    let silence = load_silent(s, a + SILENCE, silent);
+    let has_silence = get_flag(s, a + HAS_SILENCE);
+    let silence = load_silent(s, a + SILENCE, has_silence);
     let replays = load_replays(s, a + REPLAYS);
     Memory {
         peer: peer,
-        stamped: stamped,
+        has_stamp: has_stamp,
         stamp: stamp,
         replays: replays,
-        silent: silent,
+        has_silence: has_silence,
         silence: silence,
     }
 }

@@ -69,11 +69,11 @@ fn put_silence(s: &mut [u8], at: usize, x: Silence) -> usize
     ensures { λ q. ⌜ Wrote (now (s .entry)) at silenceLen (silenceBytes x) (now (s .exit)) q ⌝ }
 {
     let counted = x.counted;
-    let a = put_flag(s, at, x.known);
+    let a = put_flag(s, at, x.has_epoch);
     let b = put_be(s, a, x.epoch, U64);
     let c = put_be(s, b, x.count as u64, U32);
     let d = put_be(s, c, x.last, U64);
-    let e = put_flag(s, d, x.refusing);
+    let e = put_flag(s, d, x.has_until);
     let f = put_be(s, e, x.until, U64);
     put_digests(s, f, counted)
 }
@@ -85,9 +85,9 @@ fn put_front(s: &mut [u8], at: usize, m: Memory) -> usize
 {
     let peer = m.peer;
     let a = put_node(s, at, peer);
-    let b = put_flag(s, a, m.stamped);
+    let b = put_flag(s, a, m.has_stamp);
     let c = put_be(s, b, m.stamp, U64);
-    put_flag(s, c, m.silent)
+    put_flag(s, c, m.has_silence)
 }
 
 // A memory, 634 bytes.

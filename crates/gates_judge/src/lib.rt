@@ -1,25 +1,19 @@
 // The judgement of a msg1, from what is remembered of its peer where that stands.
-use gates_entry::layout::EPOCH;
-use gates_entry::layout::HAS_SILENCE;
-use gates_entry::layout::HAS_STAMP;
-use gates_entry::layout::HAS_UNTIL;
-use gates_entry::layout::MEMORY_WIDTH;
-use gates_entry::layout::REPLAY_COUNT;
-use gates_entry::layout::REPLAY_WIDTH;
-use gates_entry::layout::REPLAYS;
-use gates_entry::layout::SEEN;
-use gates_entry::layout::SILENCE;
-use gates_entry::layout::STAMP;
-use gates_entry::layout::UNTIL;
+use gates_entry::at::epoch_at;
+use gates_entry::at::has_epoch_at;
+use gates_entry::at::has_silence_at;
+use gates_entry::at::has_stamp_at;
+use gates_entry::at::has_until_at;
+use gates_entry::at::replay_count_at;
+use gates_entry::at::replay_is;
+use gates_entry::at::seen_at;
+use gates_entry::at::stamp_at;
+use gates_entry::at::until_at;
 use gates_types::Liveness;
 use gates_types::Refusal;
 use gates_types::Source;
 use gates_types::Verdict;
-use lib_bytes::flag::get_flag;
-use lib_bytes::read::get_8;
-use lib_region::count;
 use node_addr::Digest;
-use node_addr::place::eq_digest_at;
 use params::Params;
 use params::time::younger;
 ghost use mathlib.Core.Path.{_≡_};
@@ -39,20 +33,19 @@ fn silencing(s: &[u8], i: usize, epoch: u64, clock: u64) -> bool
     requires { ⌜ i < gateCount (now s) ⌝ }
     ensures { λ r. ⌜ r ≡ rule.silencing (some epoch) clock (memoryAt (now (s .entry)) i) ⌝ }
 {
-    if !get_flag(s, i * MEMORY_WIDTH + HAS_SILENCE) {
+    if !has_silence_at(s, i) {
         return false;
     }
-    let a = i * MEMORY_WIDTH + SILENCE;
-    if !get_flag(s, a + HAS_UNTIL) {
+    if !has_until_at(s, i) {
         return false;
     }
-    if get_8(s, a + UNTIL) <= clock {
+    if until_at(s, i) <= clock {
         return false;
     }
-    if !get_flag(s, a) {
+    if !has_epoch_at(s, i) {
         return true;
     }
-    get_8(s, a + EPOCH) == epoch
+    epoch_at(s, i) == epoch
 }
 
 // Whether they refuse what asks.
@@ -99,14 +92,12 @@ fn replayed(s: &[u8], i: usize, digest: Digest, clock: u64, c: Params) -> Verdic
     requires { ⌜ i < gateCount (now s) ⌝ }
     ensures { λ r. ⌜ refusedBy r ≡ rule.replayed (viewParams c) clock (digest .0) (memoryAt (now (s .entry)) i) ⌝ }
 {
-    let at = i * MEMORY_WIDTH + REPLAYS;
-    let n = count(s, at + REPLAY_COUNT);
+    let n = replay_count_at(s, i);
     let mut live: usize = 0;
     let mut j = 0;
     while j < n {
-        let e = at + j * REPLAY_WIDTH;
-        if younger(c.interval, clock, get_8(s, e + SEEN)) {
-            if eq_digest_at(s, e, digest) {
+        if younger(c.interval, clock, seen_at(s, i, j)) {
+            if replay_is(s, i, j, digest) {
                 return Verdict::Refuse(Refusal::Replayed);
             }
             live += 1;
@@ -142,7 +133,7 @@ fn unheard_replayed(
 fn alive_at(l: Liveness) -> u64
     ensures { λ r. ⌜ r ≡ option (heldOf l .last) (heldOf l .installed) (λ x. x) ⌝ }
 {
-    if l.dated {
+    if l.has_last {
         return l.last;
     }
     l.installed
@@ -171,11 +162,10 @@ fn dampened(s: &[u8], i: usize, clock: u64, c: Params) -> Verdict
     requires { ⌜ i < gateCount (now s) ⌝ }
     ensures { λ r. ⌜ refusedBy r ≡ rule.dampened (viewParams c) clock (memoryAt (now (s .entry)) i) ⌝ }
 {
-    let a = i * MEMORY_WIDTH;
-    if !get_flag(s, a + HAS_STAMP) {
+    if !has_stamp_at(s, i) {
         return Verdict::Pass;
     }
-    if younger(c.interval, clock, get_8(s, a + STAMP)) {
+    if younger(c.interval, clock, stamp_at(s, i)) {
         return Verdict::Refuse(Refusal::Dampened);
     }
     Verdict::Pass

@@ -27,12 +27,12 @@ none-empty : {A : Type 0} (s : List A) → length s ≤ 0 → not (empty s) ≡ 
 none-empty [] h = refl
 none-empty (x ∷ s) h = absurd (omega arith)
 
-module _ (m : Memory) (f : FitMemory m) (e : m .stamped ≡ false) where
+module _ (m : Memory) (f : FitMemory m) (e : m .«has_stamp» ≡ false) where
   pub remembers-replay : 0 < m .replays .len → true ≡ remembers (viewMemory m)
   remembers-replay h = let l = shown-length viewReplay (f .replays) in rw (e, some-not-empty (viewReplays (m .replays)) (omega arith))
 
-  pub remembers-silence : m .replays .len ≤ 0 → m .silent ≡ remembers (viewMemory m)
-  remembers-silence h = let l = shown-length viewReplay (f .replays) in rw (e, none-empty (viewReplays (m .replays)) (omega arith)) (go (m .silent))
+  pub remembers-silence : m .replays .len ≤ 0 → m .«has_silence» ≡ remembers (viewMemory m)
+  remembers-silence h = let l = shown-length viewReplay (f .replays) in rw (e, none-empty (viewReplays (m .replays)) (omega arith)) (go (m .«has_silence»))
     where
       go : (b : Bool) → b ≡ is (optional b (viewSilence (m .silence)))
       go true = refl
@@ -46,9 +46,9 @@ ended-of c now epoch setup m r x p q =
     ap (λ (s : rule.Silence). record { peer = m .peer; stamp = m .stamp; replays = m .replays; silence = some s }) (q ∙ ap (endedIn c now setup) p)
 
 pub within-len : (c : params.Params) (m : Memory) → FitMemory m → Within (viewParams c) (viewMemory m) → m .silence .counted .len ≤ c .counted
-within-len c m f w = go (m .silent) refl w
+within-len c m f w = go (m .«has_silence») refl w
   where
-    go : (b : Bool) → m .silent ≡ b → Within (viewParams c) (record { peer = m .peer .0; stamp = none; replays = []; silence = optional b (viewSilence (m .silence)) }) → m .silence .counted .len ≤ c .counted
+    go : (b : Bool) → m .«has_silence» ≡ b → Within (viewParams c) (record { peer = m .peer .0; stamp = none; replays = []; silence = optional b (viewSilence (m .silence)) }) → m .silence .counted .len ≤ c .counted
     go true e w = let l = shown-length viewDigest (f .silence .counted) in omega (arith, w)
     go false e w = let z = ap (λ (s : Silence). s .counted .len) (f .quiet e) in omega arith
 

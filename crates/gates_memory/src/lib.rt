@@ -22,13 +22,13 @@ pub fn remembers(m: Memory) -> bool
     requires { ⌜ FitMemory m ⌝ }
     ensures { λ r. ⌜ r ≡ rule.remembers (viewMemory m) ⌝ }
 {
-    if m.stamped {
+    if m.has_stamp {
         return true;
     }
     if 0 < m.replays.len {
         return true;
     }
-    m.silent
+    m.has_silence
 }
 
 // The peer was heard: no replay and no silence, the stamp as it was.
@@ -42,10 +42,10 @@ pub fn cleared(m: Memory) -> Memory
     let s = blank_silence();
     Memory {
         peer: peer,
-        stamped: m.stamped,
+        has_stamp: m.has_stamp,
         stamp: m.stamp,
         replays: r,
-        silent: false,
+        has_silence: false,
         silence: s,
     }
 }
@@ -57,7 +57,7 @@ pub fn stamped_at(m: Memory, clock: u64) -> Memory
     ensures { λ r. ⌜ viewMemory r ≡ rule.stamped clock (viewMemory m) ⌝ }
 {
     let mut out = m;
-    out.stamped = true;
+    out.has_stamp = true;
     out.stamp = clock;
     out
 }
@@ -89,11 +89,11 @@ pub fn promoted_by(m: Memory, digest: Digest, clock: u64, c: Params) -> Memory
     out
 }
 
-// A session ended unheard; `setup` is the digest of the msg1 that it came from, if it came from one (`answered`).
+// A session ended unheard; `setup` is the digest of the msg1 that it came from, if it came from one (`has_setup`).
 pub fn ended_by(
     m: Memory,
     epoch: u64,
-    answered: bool,
+    has_setup: bool,
     setup: Digest,
     clock: u64,
     c: Params,
@@ -102,11 +102,11 @@ pub fn ended_by(
     requires { ⌜ FitParams c ⌝ }
     requires { ⌜ Within (viewParams c) (viewMemory m) ⌝ }
     ensures { λ r. ⌜ FitMemory r ⌝ }
-    ensures { λ r. ⌜ viewMemory r ≡ rule.ended (viewParams c) clock (some epoch) (optional answered (setup .0)) (viewMemory m) ⌝ }
+    ensures { λ r. ⌜ viewMemory r ≡ rule.ended (viewParams c) clock (some epoch) (optional «has_setup» (setup .0)) (viewMemory m) ⌝ }
 {
     let held = m.silence;
-    let s = counting(held, m.silent, epoch, clock, c);
-    let x = ended_in(s, answered, setup, clock, c);
+    let s = counting(held, m.has_silence, epoch, clock, c);
+    let x = ended_in(s, has_setup, setup, clock, c);
     let mut out = m;
     out.silent = true;
     out.silence = x;

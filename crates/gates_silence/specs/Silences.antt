@@ -32,19 +32,19 @@ module _ (c : Params) (now e : ℕ) (s : Silence) (b : Bool) where
     count-expired q = rw (not-false b p, q)
 
     module _ (q : expired c now (viewSilence s) ≡ false) where
-      pub count-unknown : not (s .known) ≡ true
-          → record { epoch = some e; count = s .count; last = s .last; until = optional (s .refusing) (s .until); counted = viewDigests (s .counted) }
+      pub count-unknown : not (s .«has_epoch») ≡ true
+          → record { epoch = some e; count = s .count; last = s .last; until = optional (s .«has_until») (s .until); counted = viewDigests (s .counted) }
           ≡ counting c now (some e) (optional b (viewSilence s))
       unfolding counting
-      count-unknown k = rw (not-false b p, q, not-true (s .known) k)
+      count-unknown k = rw (not-false b p, q, not-true (s .«has_epoch») k)
 
-      pub count-other : not (s .known) ≡ false → (s .epoch ≡ e → ⊥) → newSilence e now ≡ counting c now (some e) (optional b (viewSilence s))
+      pub count-other : not (s .«has_epoch») ≡ false → (s .epoch ≡ e → ⊥) → newSilence e now ≡ counting c now (some e) (optional b (viewSilence s))
       unfolding counting
-      count-other k n = rw (not-false b p, q, not-false (s .known) k, ne-eqb (s .epoch) e n)
+      count-other k n = rw (not-false b p, q, not-false (s .«has_epoch») k, ne-eqb (s .epoch) e n)
 
-      pub count-same : not (s .known) ≡ false → s .epoch ≡ e → viewSilence s ≡ counting c now (some e) (optional b (viewSilence s))
+      pub count-same : not (s .«has_epoch») ≡ false → s .epoch ≡ e → viewSilence s ≡ counting c now (some e) (optional b (viewSilence s))
       unfolding counting
-      count-same k n = rw (not-false b p, q, not-false (s .known) k, eq-eqb (s .epoch) e n)
+      count-same k n = rw (not-false b p, q, not-false (s .«has_epoch») k, eq-eqb (s .epoch) e n)
 
 -- ---- one more silence: n of them, with the digests ds
 abbrev silencedAs : Params → ℕ → rule.Silence → ℕ → List Bytes → Option ℕ → rule.Silence

@@ -29,11 +29,11 @@ fn new_silence(epoch: u64, clock: u64) -> Silence
 {
     let d = no_digests();
     Silence {
-        known: true,
+        has_epoch: true,
         epoch: epoch,
         count: 0,
         last: clock,
-        refusing: false,
+        has_until: false,
         until: 0,
         counted: d,
     }
@@ -43,7 +43,7 @@ fn new_silence(epoch: u64, clock: u64) -> Silence
 fn silent_since(s: Silence) -> u64
     ensures { λ r. ⌜ r ≡ option (viewSilence s .until) (viewSilence s .last) (λ u. u) ⌝ }
 {
-    if s.refusing {
+    if s.has_until {
         return s.until;
     }
     s.last
@@ -58,22 +58,22 @@ pub fn expired(s: Silence, clock: u64, c: Params) -> bool
     end <= clock
 }
 
-// The record that an ending is counted in: the one there (`silent`), or anew.
-pub fn counting(s: Silence, silent: bool, epoch: u64, clock: u64, c: Params) -> Silence
+// The record that an ending is counted in: the one there (`has_silence`), or anew.
+pub fn counting(s: Silence, has_silence: bool, epoch: u64, clock: u64, c: Params) -> Silence
     requires { ⌜ FitSilence s ⌝ }
     ensures { λ r. ⌜ FitSilence r ⌝ }
-    ensures { λ r. ⌜ viewSilence r ≡ rule.counting (viewParams c) clock (some epoch) (optional silent (viewSilence s)) ⌝ }
+    ensures { λ r. ⌜ viewSilence r ≡ rule.counting (viewParams c) clock (some epoch) (optional «has_silence» (viewSilence s)) ⌝ }
     ensures { λ r. ⌜ r .counted .len ≤ s .counted .len ⌝ }
 {
-    if !silent {
+    if !has_silence {
         return new_silence(epoch, clock);
     }
     if expired(s, clock, c) {
         return new_silence(epoch, clock);
     }
-    if !s.known {
+    if !s.has_epoch {
         let mut out = s;
-        out.known = true;
+        out.has_epoch = true;
         out.epoch = epoch;
         return out;
     }
@@ -94,40 +94,40 @@ fn one_more(count: u32) -> u32
 }
 
 // Whether the session's digest was counted already.
-fn already(r: Digests, answered: bool, setup: Digest) -> bool
+fn already(r: Digests, has_setup: bool, setup: Digest) -> bool
     requires { ⌜ FitDigests r ⌝ }
-    ensures { λ x. ⌜ x ≡ option (optional answered (setup .0)) false (λ e. any (same e) (viewDigests r)) ⌝ }
+    ensures { λ x. ⌜ x ≡ option (optional «has_setup» (setup .0)) false (λ e. any (same e) (viewDigests r)) ⌝ }
 {
-    if answered {
+    if has_setup {
         return counted_in(r, setup);
     }
     false
 }
 
 // The digests with the session's.
-fn counted_too(r: Digests, answered: bool, setup: Digest, c: Params) -> Digests
+fn counted_too(r: Digests, has_setup: bool, setup: Digest, c: Params) -> Digests
     requires { ⌜ FitDigests r ⌝ }
     requires { ⌜ FitParams c ⌝ }
     requires { ⌜ r .len ≤ c .counted ⌝ }
     ensures { λ x. ⌜ FitDigests x ⌝ }
-    ensures { λ x. ⌜ viewDigests x ≡ rule.countedWith (viewParams c) (optional answered (setup .0)) (viewDigests r) ⌝ }
+    ensures { λ x. ⌜ viewDigests x ≡ rule.countedWith (viewParams c) (optional «has_setup» (setup .0)) (viewDigests r) ⌝ }
 {
-    if answered {
+    if has_setup {
         return counted_with(r, setup, c.counted as usize);
     }
     r
 }
 
 // One more silence; from so many on a msg1 is refused for a while.
-fn silenced(s: Silence, answered: bool, setup: Digest, clock: u64, c: Params) -> Silence
+fn silenced(s: Silence, has_setup: bool, setup: Digest, clock: u64, c: Params) -> Silence
     requires { ⌜ FitSilence s ⌝ }
     requires { ⌜ FitParams c ⌝ }
     requires { ⌜ s .counted .len ≤ c .counted ⌝ }
     ensures { λ r. ⌜ FitSilence r ⌝ }
-    ensures { λ r. ⌜ viewSilence r ≡ rule.silenced (viewParams c) clock (optional answered (setup .0)) (viewSilence s) ⌝ }
+    ensures { λ r. ⌜ viewSilence r ≡ rule.silenced (viewParams c) clock (optional «has_setup» (setup .0)) (viewSilence s) ⌝ }
 {
     let held = s.counted;
-    let digests = counted_too(held, answered, setup, c);
+    let digests = counted_too(held, has_setup, setup, c);
     let n = one_more(s.count);
     let mut out = s;
     out.count = n;
@@ -138,22 +138,22 @@ fn silenced(s: Silence, answered: bool, setup: Digest, clock: u64, c: Params) ->
     }
     let span = backoff(n - c.silent, c.silentbase, c.silentcap);
     let until = deadline(clock, span);
-    out.refusing = true;
+    out.has_until = true;
     out.until = until;
     out
 }
 
 // An ending counted, unless its digest was counted already.
-pub fn ended_in(s: Silence, answered: bool, setup: Digest, clock: u64, c: Params) -> Silence
+pub fn ended_in(s: Silence, has_setup: bool, setup: Digest, clock: u64, c: Params) -> Silence
     requires { ⌜ FitSilence s ⌝ }
     requires { ⌜ FitParams c ⌝ }
     requires { ⌜ s .counted .len ≤ c .counted ⌝ }
     ensures { λ r. ⌜ FitSilence r ⌝ }
-    ensures { λ r. ⌜ viewSilence r ≡ endedIn (viewParams c) clock (optional answered (setup .0)) (viewSilence s) ⌝ }
+    ensures { λ r. ⌜ viewSilence r ≡ endedIn (viewParams c) clock (optional «has_setup» (setup .0)) (viewSilence s) ⌝ }
 {
     let held = s.counted;
-    if already(held, answered, setup) {
+    if already(held, has_setup, setup) {
         return s;
     }
-    silenced(s, answered, setup, clock, c)
+    silenced(s, has_setup, setup, clock, c)
 }

@@ -51,19 +51,19 @@ viewDigests d = map viewDigest (take (d .len) (d .places))
 
 abbrev pub viewSilence : Silence → rule.Silence
 viewSilence s = record {
-  epoch = optional (s .known) (s .epoch);
+  epoch = optional (s .«has_epoch») (s .epoch);
   count = s .count;
   last = s .last;
-  until = optional (s .refusing) (s .until);
+  until = optional (s .«has_until») (s .until);
   counted = viewDigests (s .counted);
 }
 
 abbrev pub viewMemory : Memory → rule.Memory
 viewMemory m = record {
   peer = m .peer .0;
-  stamp = optional (m .stamped) (m .stamp);
+  stamp = optional (m .«has_stamp») (m .stamp);
   replays = viewReplays (m .replays);
-  silence = optional (m .silent) (viewSilence (m .silence));
+  silence = optional (m .«has_silence») (viewSilence (m .silence));
 }
 
 -- ---- blank values
@@ -77,10 +77,10 @@ abbrev pub blankDigests : Digests
 blankDigests = record { len = 0; places = replicate 8 blankDigest }
 
 abbrev pub blankSilence : Silence
-blankSilence = record { known = false; epoch = 0; count = 0; last = 0; refusing = false; until = 0; counted = blankDigests }
+blankSilence = record { «has_epoch» = false; epoch = 0; count = 0; last = 0; «has_until» = false; until = 0; counted = blankDigests }
 
 abbrev pub blankMemory : NodeAddr → Memory
-blankMemory p = record { peer = p; stamped = false; stamp = 0; replays = blankReplays; silent = false; silence = blankSilence }
+blankMemory p = record { peer = p; «has_stamp» = false; stamp = 0; replays = blankReplays; «has_silence» = false; silence = blankSilence }
 
 -- ---- well formed: lengths within the room, what is absent is blank
 pub record FitReplay (r : Replay) : Type 0 where
@@ -105,16 +105,16 @@ pub record WideSilence (s : Silence) : Type 0 where
 
 pub record FitSilence (s : Silence) : Type 0 where
   pub wide : WideSilence s
-  pub unknown : s .known ≡ false → s .epoch ≡ 0
-  pub lifted : s .refusing ≡ false → s .until ≡ 0
+  pub unknown : s .«has_epoch» ≡ false → s .epoch ≡ 0
+  pub lifted : s .«has_until» ≡ false → s .until ≡ 0
   pub counted : FitDigests (s .counted)
 
 pub record FitMemory (m : Memory) : Type 0 where
   pub peer : length (m .peer .0) ≡ 16
-  pub unstamped : m .stamped ≡ false → m .stamp ≡ 0
+  pub unstamped : m .«has_stamp» ≡ false → m .stamp ≡ 0
   pub replays : FitReplays (m .replays)
   pub silence : FitSilence (m .silence)
-  pub quiet : m .silent ≡ false → m .silence ≡ blankSilence
+  pub quiet : m .«has_silence» ≡ false → m .silence ≡ blankSilence
 
 -- settings within range
 pub record FitParams (c : Params) : Type 0 where
@@ -200,7 +200,7 @@ heldOf l = record {
   current = record { transport = 0; addr = [] };
   heard = l .heard;
   installed = l .installed;
-  last = optional (l .dated) (l .last);
+  last = optional (l .«has_last») (l .last);
   setup = none;
 }
 

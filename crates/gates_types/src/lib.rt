@@ -22,24 +22,24 @@ pub struct Digests {
     pub places: [Digest; 8],
 }
 
-// Sessions in a row that ended unheard. `epoch` is 0 unless `known`, `until` 0 unless `refusing`.
+// Sessions in a row that ended unheard. `epoch` is 0 unless `has_epoch`, `until` 0 unless `has_until`.
 pub struct Silence {
-    pub known: bool,
+    pub has_epoch: bool,
     pub epoch: u64,
     pub count: u32,
     pub last: u64,
-    pub refusing: bool,
+    pub has_until: bool,
     pub until: u64,
     pub counted: Digests,
 }
 
-// `stamp` is 0 unless `stamped`, `silence` blank unless `silent`.
+// `stamp` is 0 unless `has_stamp`, `silence` blank unless `has_silence`.
 pub struct Memory {
     pub peer: NodeAddr,
-    pub stamped: bool,
+    pub has_stamp: bool,
     pub stamp: u64,
     pub replays: Replays,
-    pub silent: bool,
+    pub has_silence: bool,
     pub silence: Silence,
 }
 
@@ -74,12 +74,12 @@ pub enum Verdict {
     Refuse(Refusal),
 }
 
-// The peering that a msg1 would end, where there is one (`held`). `last` is 0 unless `dated`.
+// The peering that a msg1 would end, where there is one (`held`). `last` is 0 unless `has_last`.
 pub struct Liveness {
     pub held: bool,
     pub heard: bool,
     pub installed: u64,
-    pub dated: bool,
+    pub has_last: bool,
     pub last: u64,
 }
 
@@ -117,11 +117,11 @@ pub fn blank_silence() -> Silence
 {
     let d = no_digests();
     Silence {
-        known: false,
+        has_epoch: false,
         epoch: 0,
         count: 0,
         last: 0,
-        refusing: false,
+        has_until: false,
         until: 0,
         counted: d,
     }
@@ -135,10 +135,10 @@ pub fn blank_memory(peer: NodeAddr) -> Memory
     let s = blank_silence();
     Memory {
         peer: peer,
-        stamped: false,
+        has_stamp: false,
         stamp: 0,
         replays: r,
-        silent: false,
+        has_silence: false,
         silence: s,
     }
 }

@@ -28,7 +28,7 @@ use Rattle.held.specs.View.{heldFrom, heldOf, FitCells, FitHeldCell, Fit
 -- ---- what is written
 abbrev pub heldFields : held.Held → List Bytes
 heldFields h = h .peer .0 ∷ digits 8 (h .link .0) ∷ digits 8 (h .epoch) ∷ digits 8 (h .installed) ∷ (one (h .heard) ∷ [])
-    ∷ (one (h .dated) ∷ []) ∷ digits 8 (h .last) ∷ (one (h .answered) ∷ []) ∷ h .setup .0 ∷ pairCell (h .current) ∷ []
+    ∷ (one (h .«has_last») ∷ []) ∷ digits 8 (h .last) ∷ (one (h .«has_setup») ∷ []) ∷ h .setup .0 ∷ pairCell (h .current) ∷ []
 
 unfoldable pub heldBytes : held.Held → Bytes
 heldBytes h = joined (heldFields h)
@@ -38,7 +38,7 @@ abbrev pub frontBytes : held.Held → Bytes
 frontBytes h = h .peer .0 ++ digits 8 (h .link .0) ++ digits 8 (h .epoch) ++ digits 8 (h .installed) ++ (one (h .heard) ∷ [])
 
 abbrev pub backBytes : held.Held → Bytes
-backBytes h = (one (h .dated) ∷ []) ++ digits 8 (h .last) ++ (one (h .answered) ∷ []) ++ h .setup .0 ++ pairCell (h .current)
+backBytes h = (one (h .«has_last») ∷ []) ++ digits 8 (h .last) ++ (one (h .«has_setup») ∷ []) ++ h .setup .0 ++ pairCell (h .current)
 
 bytes-are : (h : held.Held) → frontBytes h ++ backBytes h ≡ heldBytes h
 unfolding heldBytes joined
@@ -74,8 +74,8 @@ optional-bytes false n s e h = record { flag = flag-code false; size = e; blank 
 fit-fields : (h : held.Held) → FitRec h → FitCells (heldFields h)
 fit-fields h f = record {
   heard = flag-code (h .heard);
-  last = optional-number (h .dated) (h .last) (f .undated);
-  setup = optional-bytes (h .answered) 32 (h .setup .0) (f .setup) (f .unanswered);
+  last = optional-number (h .«has_last») (h .last) (f .undated);
+  setup = optional-bytes (h .«has_setup») 32 (h .setup .0) (f .setup) (f .unanswered);
   current = pair-cell-fit (f .current);
 }
 
@@ -100,9 +100,9 @@ held-bytes h f b =
       more-digits 8 (h .epoch) (b .epoch .fits),
       more-digits 8 (h .installed) (b .installed .fits),
       flag-shows (h .heard),
-      flag-shows (h .dated),
+      flag-shows (h .«has_last»),
       more-digits 8 (h .last) (b .last .fits),
-      flag-shows (h .answered),
+      flag-shows (h .«has_setup»),
       pair-cell-shows (f .current) (b .transport),
     )
 
@@ -124,9 +124,9 @@ pub record Loaded (h : held.Held) (a : ℕ) (s : Bytes) : Type 0 where
   pub epoch : h .epoch ≡ num (take 8 (drop (a + atHeldEpoch) s))
   pub installed : h .installed ≡ num (take 8 (drop (a + atInstalled) s))
   pub heard : h .heard ≡ flagOf (take 1 (drop (a + atHeard) s))
-  pub dated : h .dated ≡ flagOf (take 1 (drop (a + atHasLast) s))
+  pub «has_last» : h .«has_last» ≡ flagOf (take 1 (drop (a + atHasLast) s))
   pub last : h .last ≡ num (take 8 (drop (a + atLast) s))
-  pub answered : h .answered ≡ flagOf (take 1 (drop (a + atHasSetup) s))
+  pub «has_setup» : h .«has_setup» ≡ flagOf (take 1 (drop (a + atHasSetup) s))
   pub setup : h .setup .0 ≡ take 32 (drop (a + atHeldSetup) s)
   pub fit : FitPair (h .current)
   pub current : viewPair (h .current) ≡ pairOf (take pairWidth (drop (a + atCurrent) s))
@@ -144,13 +144,13 @@ held-loaded s i h f l r =
     let z : i * heldWidth + 0 ≡ i * heldWidth = add-zero (i * heldWidth) in
     let k = fit-here s i f l in
     let v : viewRec h ≡ heldFrom (cuts (i * heldWidth) 0 heldWs s) =
-    rw (r .peer, r .link, r .epoch, r .installed, r .heard, r .dated, r .last, r .answered, r .setup, r .current, z) in (
+    rw (r .peer, r .link, r .epoch, r .installed, r .heard, r .«has_last», r .last, r .«has_setup», r .setup, r .current, z) in (
       record {
         peer = rw (r .peer) (length-take-le 16 (drop (i * heldWidth) s) (rw length-drop (omega arith)));
         setup = rw (r .setup) (k .setup .size);
         current = r .fit;
-        undated = λ e. r .last ∙ ap num (clear (k .last) (r .dated) e) ∙ num-zeros;
-        unanswered = λ e. r .setup ∙ clear (k .setup) (r .answered) e;
+        undated = λ e. r .last ∙ ap num (clear (k .last) (r .«has_last») e) ∙ num-zeros;
+        unanswered = λ e. r .setup ∙ clear (k .setup) (r .«has_setup») e;
       },
       v ∙ held-here s i f l,
     )

@@ -81,16 +81,16 @@ viewRec h = record {
   current = viewPair (h .current);
   heard = h .heard;
   installed = h .installed;
-  last = if h .dated then some (h .last) else none;
-  setup = if h .answered then some (h .setup .0) else none;
+  last = if h .«has_last» then some (h .last) else none;
+  setup = if h .«has_setup» then some (h .setup .0) else none;
 }
 
 pub record FitRec (h : held.Held) : Type 0 where
   pub peer : length (h .peer .0) ≡ 16
   pub setup : length (h .setup .0) ≡ 32
   pub current : FitPair (h .current)
-  pub undated : h .dated ≡ false → h .last ≡ 0
-  pub unanswered : h .answered ≡ false → h .setup .0 ≡ replicate 32 0
+  pub undated : h .«has_last» ≡ false → h .last ≡ 0
+  pub unanswered : h .«has_setup» ≡ false → h .setup .0 ≡ replicate 32 0
 
 -- when the peer was last heard, 0 if never
 abbrev pub lastHeard : Held → ℕ

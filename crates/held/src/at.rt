@@ -9,7 +9,6 @@ use crate::layout::INSTALLED;
 use crate::layout::LAST;
 use crate::layout::LINK;
 use crate::layout::SETUP;
-use crate::record::Held;
 use lib_bytes::flag::get_flag;
 use lib_bytes::layout::U64;
 use lib_bytes::read::get_be;
@@ -17,11 +16,10 @@ use node_addr::Digest;
 use node_addr::LinkNo;
 use node_addr::NodeAddr;
 use node_addr::Pair;
-use node_addr::place::load_digest;
-use node_addr::place::load_node;
-use node_addr::place::load_pair;
 use node_addr::place::eq_pair_at;
 use node_addr::place::eq_wire_pair;
+use node_addr::place::load_digest;
+use node_addr::place::load_node;
 ghost use mathlib.Core.Path.{_≡_};
 ghost use Prim.Native.Nat.{_<_};
 ghost use lib.ListN.{drop};
@@ -29,7 +27,7 @@ ghost use Rattle.rules.specs.Base.{is};
 ghost use Rattle.rules.specs.Data.{samePair};
 ghost use Rattle.node_addr.specs.View.{viewPair, FitPair};
 ghost use Rattle.node_addr.specs.Place.{pairHere, PairIn};
-ghost use Rattle.held.specs.View.{FitRec, FitHeld, viewRec, heldCount, nthHeld, lastHeard, setupOf};
+ghost use Rattle.held.specs.View.{FitHeld, heldCount, nthHeld, lastHeard, setupOf};
 
 pub fn peer_at(s: &[u8], i: usize) -> NodeAddr
     requires { ⌜ FitHeld (now s) ⌝ }
@@ -73,7 +71,7 @@ pub fn heard_at(s: &[u8], i: usize) -> bool
 }
 
 // Whether a frame of its session has been heard.
-pub fn dated_at(s: &[u8], i: usize) -> bool
+pub fn has_last_at(s: &[u8], i: usize) -> bool
     requires { ⌜ FitHeld (now s) ⌝ }
     requires { ⌜ i < heldCount (now s) ⌝ }
     ensures { λ r. ⌜ r ≡ is (nthHeld (now (s .entry)) i .last) ⌝ }
@@ -91,7 +89,7 @@ pub fn last_at(s: &[u8], i: usize) -> u64
 }
 
 // Whether an answer of this node installed it.
-pub fn answered_at(s: &[u8], i: usize) -> bool
+pub fn has_setup_at(s: &[u8], i: usize) -> bool
     requires { ⌜ FitHeld (now s) ⌝ }
     requires { ⌜ i < heldCount (now s) ⌝ }
     ensures { λ r. ⌜ r ≡ is (nthHeld (now (s .entry)) i .setup) ⌝ }
@@ -106,15 +104,6 @@ pub fn setup_at(s: &[u8], i: usize) -> Digest
     ensures { λ r. ⌜ r .0 ≡ setupOf (nthHeld (now (s .entry)) i) ⌝ }
 {
     load_digest(s, i * HELD_WIDTH + SETUP)
-}
-
-pub fn current_at(s: &[u8], i: usize) -> Pair
-    requires { ⌜ FitHeld (now s) ⌝ }
-    requires { ⌜ i < heldCount (now s) ⌝ }
-    ensures { λ r. ⌜ FitPair r ⌝ }
-    ensures { λ r. ⌜ viewPair r ≡ nthHeld (now (s .entry)) i .current ⌝ }
-{
-    load_pair(s, i * HELD_WIDTH + CURRENT)
 }
 
 // Whether the current pair is p.
@@ -135,30 +124,4 @@ pub fn current_stands(s: &[u8], i: usize, rec: &[u8], from: usize) -> bool
     ensures { λ r. ⌜ r ≡ samePair (pairHere (drop from (now (rec .entry)))) (nthHeld (now (s .entry)) i .current) ⌝ }
 {
     eq_wire_pair(s, i * HELD_WIDTH + CURRENT, rec, from)
-}
-
-// The i-th held peer.
-pub fn get_held(s: &[u8], i: usize) -> Held
-    requires { ⌜ FitHeld (now s) ⌝ }
-    requires { ⌜ i < heldCount (now s) ⌝ }
-    ensures { λ r. ⌜ FitRec r ⌝ }
-    ensures { λ r. ⌜ viewRec r ≡ nthHeld (now (s .entry)) i ⌝ }
-{
-    let a = i * HELD_WIDTH;
-    let peer = load_node(s, a);
-    let link = get_be(s, a + LINK, U64);
-    let setup = load_digest(s, a + SETUP);
-    let current = load_pair(s, a + CURRENT);
-    Held {
-        peer: peer,
-        link: LinkNo(link),
-        epoch: get_be(s, a + EPOCH, U64),
-        installed: get_be(s, a + INSTALLED, U64),
-        heard: get_flag(s, a + HEARD),
-        dated: get_flag(s, a + HAS_LAST),
-        last: get_be(s, a + LAST, U64),
-        answered: get_flag(s, a + HAS_SETUP),
-        setup: setup,
-        current: current,
-    }
 }

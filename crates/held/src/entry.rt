@@ -32,9 +32,9 @@ fn put_back(s: &mut [u8], at: usize, h: Held) -> usize
 {
     let setup = h.setup;
     let current = h.current;
-    let a = put_flag(s, at, h.dated);
+    let a = put_flag(s, at, h.has_last);
     let b = put_be(s, a, h.last, U64);
-    let c = put_flag(s, b, h.answered);
+    let c = put_flag(s, b, h.has_setup);
     let d = put_digest(s, c, setup);
     put_pair(s, d, current)
 }

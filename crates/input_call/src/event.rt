@@ -1,11 +1,11 @@
 // The fields of the other calls, after their clock: readers in a row, up to the record's end.
+use input_cursor::at_end;
 use input_cursor::next_code;
 use input_cursor::next_flag;
 use input_cursor::next_pair;
-use input_cursor::skip_pair;
 use input_cursor::next_peer;
-use input_cursor::at_end;
 use input_cursor::next_u64;
+use input_cursor::skip_pair;
 use node_addr::LinkNo;
 use node_addr::NodeAddr;
 use node_addr::Pair;

@@ -1,15 +1,15 @@
 // The fields of the calls that carry a message, after their clock: readers in a row, up to the record's end.
 use crate::hello::Hello;
+use input_cursor::at_end;
 use input_cursor::next_digest;
 use input_cursor::next_flag;
-use input_cursor::next_u32;
 use input_cursor::next_message;
 use input_cursor::next_pair;
-use input_cursor::skip_pair;
 use input_cursor::next_peer;
 use input_cursor::next_span;
-use input_cursor::at_end;
+use input_cursor::next_u32;
 use input_cursor::next_u64;
+use input_cursor::skip_pair;
 use input_field::Span;
 use node_addr::Message;
 use node_addr::NodeAddr;

@@ -18,11 +18,11 @@ use Rattle.lib_laws.specs.Follow.{Stepped, stepped-off, stepped-none, stepped-s
 use Rattle.rules.specs.Data.{Pair}
 use Rattle.node_addr.specs.Place.{pairHere, PairIn}
 use Rattle.input_field.specs.Field.{Spelt}
-use Rattle.input_field.specs.Told.{Told, told-yes, told-no, told-room, below, code-is}
+use Rattle.input_field.specs.Parsed.{Parsed, told-yes, told-no, told-room, below, code-is}
 
 -- ---- a reader of a part, made one that passes ok and the place on
 module _ {A : Type 0} {p : Reader A} {ok : Bool} {at : ℕ} {s : Bytes} where
-  module _ {b : A} {ok′ : Bool} {v : A} {n : ℕ} (t : Told b (p (take (length s - at) (drop at s))) ok′ v n (take (length s - at) (drop at s))) (h : not ok ≡ false) (r : at ≤ length s) where
+  module _ {b : A} {ok′ : Bool} {v : A} {n : ℕ} (t : Parsed b (p (take (length s - at) (drop at s))) ok′ v n (take (length s - at) (drop at s))) (h : not ok ≡ false) (r : at ≤ length s) where
     pub stepped-no : {w : A} → not ok′ ≡ true → Stepped p ok at s false w at
     stepped-no q = stepped-none h r (rw rest-of at (told-no t (not-true ok′ q)))
 
@@ -33,7 +33,7 @@ module _ {A : Type 0} {p : Reader A} {ok : Bool} {at : ℕ} {s : Bytes} where
         stepped-some n h (omega (arith, rw length-drop at l)) (simp rest-of at (told-yes t e))
 
 pub stepped-fits : {A : Type 0} {b : A} {o : Option (A × Bytes)} {ok : Bool} {v : A} {n : ℕ} (at : ℕ) (s : Bytes)
-    → Told b o ok v n (take (length s - at) (drop at s)) → not ok ≡ false → at ≤ length s → length s < 2 ^ 64 → Fits w64 (at + n)
+    → Parsed b o ok v n (take (length s - at) (drop at s)) → not ok ≡ false → at ≤ length s → length s < 2 ^ 64 → Fits w64 (at + n)
 stepped-fits {ok = ok} at s t q r l = let m = rw length-drop at (rw rest-of at (told-room t (not-false ok q))) in omega arith
 
 pub ruleset stepping = (needs, stepped-off, stepped-no, stepped-yes, stepped-fits)
@@ -60,7 +60,7 @@ module _ (at : ℕ) (s : Bytes) {ok′ : Bool} {n : ℕ} (w : Spelt (take (lengt
 
 -- a message that stays where it stands
 module _ (at n : ℕ) (s : Bytes) {ok′ : Bool}
-    (t : Told [] (message (take (length s - at) (drop at s))) ok′ (take n (drop 2 (take (length s - at) (drop at s)))) (2 + n) (take (length s - at) (drop at s)))
+    (t : Parsed [] (message (take (length s - at) (drop at s))) ok′ (take n (drop 2 (take (length s - at) (drop at s)))) (2 + n) (take (length s - at) (drop at s)))
     (r : at ≤ length s) (q : not ok′ ≡ false) where
   pub span-yes : {ok : Bool} → not ok ≡ false → Stepped message ok at s true (take n (drop (at + 2) s)) (at + (2 + n))
   span-yes {ok} h = simp (rest-of, drop-drop) at (stepped-yes {p = message} {ok = ok} {s = s} t h r q)

@@ -6,10 +6,10 @@ use input_field::read_byte;
 use input_field::read_code;
 use input_field::read_digest;
 use input_field::read_flag;
-use input_field::read_u32;
 use input_field::read_message;
 use input_field::read_pair;
 use input_field::read_peer;
+use input_field::read_u32;
 use input_field::read_u64;
 use node_addr::Digest;
 use node_addr::Message;
@@ -24,7 +24,7 @@ ghost use Rattle.rules.specs.Field.{number, peer, lease, digest, flag, pair, me
 ghost use Rattle.lib_laws.specs.Follow.{Stepped};
 ghost use Rattle.node_addr.specs.View.{viewPair, viewMessage, FitPair, FitMessage};
 ghost use Rattle.node_addr.specs.Place.{pairHere, PairIn};
-ghost use Rattle.input_field.specs.Told.{below};
+ghost use Rattle.input_field.specs.Parsed.{below};
 ghost use Rattle.input_field.specs.Field.{spanOf, FitSpan};
 
 pub struct PeerAt {

@@ -21,7 +21,7 @@ use Rattle.node_addr.specs.declared.Message as messages
 use Rattle.input_field.specs.declared.ReadPair as readpair
 use Rattle.input_field.specs.declared.ReadMessage as readmessage
 use Rattle.input_field.specs.declared.Span as spans
-use Rattle.input_field.specs.Told.{Told, told-some, told-yes, told-room, below, meant, code-is}
+use Rattle.input_field.specs.Parsed.{Parsed, told-some, told-yes, told-room, below, meant, code-is}
 
 abbrev pub noPair : readpair.ReadPair
 noPair = record { ok = false; value = blankPair }
@@ -54,7 +54,7 @@ truth zero h = refl
 truth (suc zero) h = refl
 truth (suc (suc v)) h = absurd (omega arith)
 
-pub flag-told : {ok : Bool} {v : ℕ} {s : Bytes} → Told 0 (below 2 s) ok v 1 s → v < 2 → Told false (flag s) ok (eqb v 1) 1 s
+pub flag-told : {ok : Bool} {v : ℕ} {s : Bytes} → Parsed 0 (below 2 s) ok v 1 s → v < 2 → Parsed false (flag s) ok (eqb v 1) 1 s
 flag-told {ok} {v} {s} t h = record {
   is = rw (code-is flags false s, t .is) (go ok);
   value = rw (code-is flags false s, t .is) (seen ok (t .value ∙ rw (t .is)));
@@ -84,7 +84,7 @@ pub spelt-none : {s : Bytes} {ok : Bool} {n : ℕ} → Spelt s ok n → not ok �
 spelt-none {ok = ok} w q = rw (not-true ok q) at (w .is)
 
 -- by value
-pub pair-copied : {s : Bytes} {ok : Bool} {n : ℕ} {p : pairs.Pair} → Spelt s ok n → not ok ≡ false → viewPair p ≡ pairHere s → FitPair p → Told (viewPair blankPair) (pair s) true (viewPair p) (5 + p .addr .len) s
+pub pair-copied : {s : Bytes} {ok : Bool} {n : ℕ} {p : pairs.Pair} → Spelt s ok n → not ok ≡ false → viewPair p ≡ pairHere s → FitPair p → Parsed (viewPair blankPair) (pair s) true (viewPair p) (5 + p .addr .len) s
 unfolding pairHere
 pair-copied {s} {ok} {n} {p} w g e f =
     let q = not-false ok g in
@@ -137,15 +137,15 @@ module _ (s : Bytes) where
     pub message-cut : n ≤ 128 → length s - 2 < n → message s ≡ none
     message-cut k q = sized ∙ upTo-no n (drop 2 s) 128 k (rw length-drop q)
 
-    pub message-told : n ≤ 128 → n ≤ length s - 2 → Told [] (message s) true (take n (drop 2 s)) (2 + n) s
+    pub message-told : n ≤ 128 → n ≤ length s - 2 → Parsed [] (message s) true (take n (drop 2 s)) (2 + n) s
     message-told k q = told-some (sized ∙ rw (upTo-yes n (drop 2 s) 128 k (rw length-drop q), drop-drop n 2 s)) (omega arith)
 
   -- the same, copied
-  module _ (n : ℕ) {ok : Bool} {bs : Bytes} (t : Told [] (message s) ok (take n (drop 2 s)) (2 + n) s) (g : not ok ≡ false) (eb : bs ≡ take n (drop 2 s) ++ replicate (128 - n) 0) where
+  module _ (n : ℕ) {ok : Bool} {bs : Bytes} (t : Parsed [] (message s) ok (take n (drop 2 s)) (2 + n) s) (g : not ok ≡ false) (eb : bs ≡ take n (drop 2 s) ++ replicate (128 - n) 0) where
     span-length : length (take n (drop 2 s)) ≡ n
     span-length = let r = told-room t (not-false ok g) in length-take-le n (drop 2 s) (rw length-drop (omega (arith, r)))
 
-    pub message-copied : Told [] (message s) true (take n bs) (2 + n) s
+    pub message-copied : Parsed [] (message s) true (take n bs) (2 + n) s
     message-copied = told-some (told-yes t (not-false ok g) ∙ rw (shown-filled (take n (drop 2 s)) (128 - n) n bs span-length eb)) (told-room t (not-false ok g))
 
     pub message-fits : n ≤ 128 → FitMessage (record { len = n; bytes = bs })

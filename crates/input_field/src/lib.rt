@@ -18,7 +18,7 @@ ghost use Prim.Native.Nat.{_+_, _≤_, _<_};
 ghost use lib.ListN.{length, take, drop, replicate};
 ghost use Rattle.rules.specs.Field.{more, number, peer, lease, digest, flag, pair, message};
 ghost use Rattle.node_addr.specs.View.{viewPair, viewMessage, FitPair, FitMessage, blankPair};
-ghost use Rattle.input_field.specs.Told.{Told, below};
+ghost use Rattle.input_field.specs.Parsed.{Parsed, below};
 ghost use Rattle.input_field.specs.Field.{noPair, noMessage, Spelt, spanOf, FitSpan};
 
 pub struct ReadPeer {
@@ -93,7 +93,7 @@ pub fn two_bytes(rest: &[u8]) -> usize
 
 // A node address, 16 bytes.
 pub fn read_peer(rest: &[u8]) -> ReadPeer
-    ensures { λ r. ⌜ Told (replicate 16 0) (peer (now (rest .entry))) (r .ok) (r .value .0) 16 (now (rest .entry)) ⌝ }
+    ensures { λ r. ⌜ Parsed (replicate 16 0) (peer (now (rest .entry))) (r .ok) (r .value .0) 16 (now (rest .entry)) ⌝ }
 {
     if rest.len() < 16 {
         return ReadPeer {
@@ -110,7 +110,7 @@ pub fn read_peer(rest: &[u8]) -> ReadPeer
 
 // A digest, 32 bytes.
 pub fn read_digest(rest: &[u8]) -> ReadDigest
-    ensures { λ r. ⌜ Told (replicate 32 0) (digest (now (rest .entry))) (r .ok) (r .value .0) 32 (now (rest .entry)) ⌝ }
+    ensures { λ r. ⌜ Parsed (replicate 32 0) (digest (now (rest .entry))) (r .ok) (r .value .0) 32 (now (rest .entry)) ⌝ }
 {
     if rest.len() < 32 {
         return ReadDigest {
@@ -127,7 +127,7 @@ pub fn read_digest(rest: &[u8]) -> ReadDigest
 
 // A number of 8 bytes: a clock, a link, an epoch, a span.
 pub fn read_u64(rest: &[u8]) -> ReadU64
-    ensures { λ r. ⌜ Told 0 (number 8 (now (rest .entry))) (r .ok) (r .value) 8 (now (rest .entry)) ⌝ }
+    ensures { λ r. ⌜ Parsed 0 (number 8 (now (rest .entry))) (r .ok) (r .value) 8 (now (rest .entry)) ⌝ }
 {
     if rest.len() < 8 {
         return ReadU64 {
@@ -144,7 +144,7 @@ pub fn read_u64(rest: &[u8]) -> ReadU64
 
 // A number of 4 bytes: a lease, a count.
 pub fn read_u32(rest: &[u8]) -> ReadU32
-    ensures { λ r. ⌜ Told 0 (lease (now (rest .entry))) (r .ok) (r .value) 4 (now (rest .entry)) ⌝ }
+    ensures { λ r. ⌜ Parsed 0 (lease (now (rest .entry))) (r .ok) (r .value) 4 (now (rest .entry)) ⌝ }
 {
     if rest.len() < 4 {
         return ReadU32 {
@@ -161,7 +161,7 @@ pub fn read_u32(rest: &[u8]) -> ReadU32
 
 // A byte.
 pub fn read_byte(rest: &[u8]) -> ReadByte
-    ensures { λ r. ⌜ Told 0 (number 1 (now (rest .entry))) (r .ok) (r .value) 1 (now (rest .entry)) ⌝ }
+    ensures { λ r. ⌜ Parsed 0 (number 1 (now (rest .entry))) (r .ok) (r .value) 1 (now (rest .entry)) ⌝ }
 {
     if rest.len() < 1 {
         return ReadByte {
@@ -179,7 +179,7 @@ pub fn read_byte(rest: &[u8]) -> ReadByte
 // A byte below k: a code of k meanings.
 pub fn read_code(rest: &[u8], k: u8) -> ReadByte
     requires { ⌜ 0 < k ⌝ }
-    ensures { λ r. ⌜ Told 0 (below k (now (rest .entry))) (r .ok) (r .value) 1 (now (rest .entry)) ⌝ }
+    ensures { λ r. ⌜ Parsed 0 (below k (now (rest .entry))) (r .ok) (r .value) 1 (now (rest .entry)) ⌝ }
     ensures { λ r. ⌜ r .value < k ⌝ }
 {
     if rest.len() < 1 {
@@ -203,7 +203,7 @@ pub fn read_code(rest: &[u8], k: u8) -> ReadByte
 
 // A flag: 0 or 1.
 pub fn read_flag(rest: &[u8]) -> ReadFlag
-    ensures { λ r. ⌜ Told false (flag (now (rest .entry))) (r .ok) (r .value) 1 (now (rest .entry)) ⌝ }
+    ensures { λ r. ⌜ Parsed false (flag (now (rest .entry))) (r .ok) (r .value) 1 (now (rest .entry)) ⌝ }
 {
     let c = read_code(rest, 2);
     let ok = c.ok;
@@ -247,7 +247,7 @@ pub fn pair_span(rest: &[u8]) -> ReadSpan
 
 // The same, by value.
 pub fn read_pair(rest: &[u8]) -> ReadPair
-    ensures { λ r. ⌜ Told (viewPair blankPair) (pair (now (rest .entry))) (r .ok) (viewPair (r .value)) (5 + r .value .addr .len) (now (rest .entry)) ⌝ }
+    ensures { λ r. ⌜ Parsed (viewPair blankPair) (pair (now (rest .entry))) (r .ok) (viewPair (r .value)) (5 + r .value .addr .len) (now (rest .entry)) ⌝ }
     ensures { λ r. ⌜ FitPair (r .value) ⌝ }
 {
     let w = pair_span(rest);
@@ -272,7 +272,7 @@ fn no_message() -> ReadMessage
 
 // A length of at most 128, and so many bytes, which stay where they stand.
 pub fn message_span(rest: &[u8]) -> ReadSpan
-    ensures { λ r. ⌜ Told [] (message (now (rest .entry))) (r .ok) (take (r .len) (drop 2 (now (rest .entry)))) (2 + r .len) (now (rest .entry)) ⌝ }
+    ensures { λ r. ⌜ Parsed [] (message (now (rest .entry))) (r .ok) (take (r .len) (drop 2 (now (rest .entry)))) (2 + r .len) (now (rest .entry)) ⌝ }
     ensures { λ r. ⌜ r .len ≤ 128 ⌝ }
 {
     if rest.len() < 2 {
@@ -290,7 +290,7 @@ pub fn message_span(rest: &[u8]) -> ReadSpan
 
 // The same, by value.
 pub fn read_message(rest: &[u8]) -> ReadMessage
-    ensures { λ r. ⌜ Told [] (message (now (rest .entry))) (r .ok) (viewMessage (r .value)) (2 + r .value .len) (now (rest .entry)) ⌝ }
+    ensures { λ r. ⌜ Parsed [] (message (now (rest .entry))) (r .ok) (viewMessage (r .value)) (2 + r .value .len) (now (rest .entry)) ⌝ }
     ensures { λ r. ⌜ FitMessage (r .value) ⌝ }
 {
     let m = message_span(rest);

@@ -14,7 +14,7 @@ use Rattle.rules.specs.Record.{Begin, settings, form, beginFields, begin, readN
 use Rattle.rules.specs.Entry.{Made, Refused, newTable, new}
 use Rattle.lib_laws.specs.Follow.{Stepped, Follows, follows-start, follows-step}
 use Rattle.params.specs.View.{viewParams}
-use Rattle.input_field.specs.Told.{below}
+use Rattle.input_field.specs.Parsed.{below}
 use Rattle.input_cursor.specs.Row.{coded}
 use Rattle.input_call.specs.Read.{follows-whole}
 use Rattle.input_frame.specs.Frame.{heading, framed-is}

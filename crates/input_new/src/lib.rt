@@ -1,9 +1,9 @@
 // The record of new: its clock, which nothing uses, me, the first link number, and the settings by their form.
+use input_cursor::at_end;
 use input_cursor::next_byte;
 use input_cursor::next_code;
-use input_cursor::next_u32;
 use input_cursor::next_peer;
-use input_cursor::at_end;
+use input_cursor::next_u32;
 use input_cursor::next_u64;
 use input_frame::read_frame;
 use node_addr::NodeAddr;

@@ -81,13 +81,13 @@ module _ (c : Bytes) (z : length c ≡ legWidth) (f : FitLegCell c) where
     next = f .next;
     answer = f .answer;
     peer = f .peer;
-    marked = record { size = refl; low = rw e (f .answer .low) };
+    «answer_sent» = record { size = refl; low = rw e (f .answer .low) };
     replaces = f .replaces;
     msg1 = f .msg1;
     msg2 = f .msg2;
     dial = λ q.
         let k = f .dial q in
-        record { marked = rw (e, low-zero (f .answer) q); replaces = k .replaces; epoch = k .epoch; digest = k .digest; len2 = k .len2; msg2 = k .msg2 };
+        record { «answer_sent» = rw (e, low-zero (f .answer) q); replaces = k .replaces; epoch = k .epoch; digest = k .digest; len2 = k .len2; msg2 = k .msg2 };
   })
 
   sent-shows : (b : ℕ) → b ≡ byteOf (cell (cuts 0 0 legWs c) 6) → legOf (splice c 51 (b ∷ [])) ≡ markSent (legOf c)
@@ -104,13 +104,13 @@ module _ (c : Bytes) (z : length c ≡ legWidth) (f : FitLegCell c) where
     next = f .next;
     answer = f .answer;
     peer = f .peer;
-    marked = f .marked;
+    «answer_sent» = f .«answer_sent»;
     replaces = record { size = refl; low = lit< tt };
     msg1 = f .msg1;
     msg2 = f .msg2;
     dial = λ q.
         let k = f .dial q in
-        record { marked = k .marked; replaces = refl; epoch = k .epoch; digest = k .digest; len2 = k .len2; msg2 = k .msg2 };
+        record { «answer_sent» = k .«answer_sent»; replaces = refl; epoch = k .epoch; digest = k .digest; len2 = k .len2; msg2 = k .msg2 };
   })
 
   unsent-shows : legOf (splice c 52 (0 ∷ [])) ≡ markUnsent (legOf c)
@@ -139,13 +139,13 @@ module _ (c : Bytes) (z : length c ≡ legWidth) (f : FitLegCell c) where
       next = optional-number t v q;
       answer = f .answer;
       peer = f .peer;
-      marked = f .marked;
+      «answer_sent» = f .«answer_sent»;
       replaces = f .replaces;
       msg1 = f .msg1;
       msg2 = f .msg2;
       dial = λ e.
           let k = f .dial e in
-          record { marked = k .marked; replaces = k .replaces; epoch = k .epoch; digest = k .digest; len2 = k .len2; msg2 = k .msg2 };
+          record { «answer_sent» = k .«answer_sent»; replaces = k .replaces; epoch = k .epoch; digest = k .digest; len2 = k .len2; msg2 = k .msg2 };
     })
 
     again-shows : Fits w64 v → Fits w32 n → legOf (splice c 16 ((one t ∷ []) ++ digits 8 v ++ digits 4 n)) ≡ again (if t then some v else none) n (legOf c)

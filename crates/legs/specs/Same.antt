@@ -30,7 +30,7 @@ shows-none = ap (λ (n : ℕ). map legOf (take n (chunks legWidth legCap (replic
 module _ (c d : Bytes) where
   pub record Alike : Type 0 where
     pub answer : take 1 (drop 33 c) ≡ take 1 (drop 33 d)
-    pub marked : take 1 (drop 51 c) ≡ take 1 (drop 51 d)
+    pub «answer_sent» : take 1 (drop 51 c) ≡ take 1 (drop 51 d)
     pub replaces : take 1 (drop 52 c) ≡ take 1 (drop 52 d)
     pub epoch : take 8 (drop atPathState c) ≡ take 8 (drop atPathState d)
     pub digest : take 32 (drop 61 c) ≡ take 32 (drop 61 d)
@@ -48,7 +48,7 @@ module _ (c d : Bytes) (f : FitLegCell c) (g : FitLegCell d) (h : length c ≡ l
           let m = text-same (f .msg2) (g .msg2) (ap (λ (r : Answered). r .msg2) w) in
           record {
             answer = flag-same (f .answer) (g .answer) (p ∙ sym q);
-            marked = flag-same (f .marked) (g .marked) (ap (λ (r : Answered). r .sent) w);
+            «answer_sent» = flag-same (f .«answer_sent») (g .«answer_sent») (ap (λ (r : Answered). r .sent) w);
             replaces = flag-same (f .replaces) (g .replaces) (ap (λ (r : Answered). r .replaces) w);
             epoch = num-cells 8 atEpoch c d (omega arith) (omega arith) a b (ap (λ (r : Answered). r .epoch) w);
             digest = ap (λ (r : Answered). r .ephemeral) w;
@@ -62,7 +62,7 @@ module _ (c d : Bytes) (f : FitLegCell c) (g : FitLegCell d) (h : length c ≡ l
           let v = g .dial q in
           record {
             answer = flag-same (f .answer) (g .answer) (p ∙ sym q);
-            marked = u .marked ∙ sym (v .marked);
+            «answer_sent» = u .«answer_sent» ∙ sym (v .«answer_sent»);
             replaces = u .replaces ∙ sym (v .replaces);
             epoch = u .epoch ∙ sym (v .epoch);
             digest = u .digest ∙ sym (v .digest);
@@ -88,7 +88,7 @@ module _ (c d : Bytes) (f : FitLegCell c) (g : FitLegCell d) (h : length c ≡ l
         m .answer,
         p .0,
         p .1,
-        m .marked,
+        m .«answer_sent»,
         m .replaces,
         m .epoch,
         m .digest,

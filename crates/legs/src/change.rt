@@ -51,7 +51,7 @@ fn next_resend(c: Params, clock: u64, n: u32) -> Again
     Again { some: false, at: 0 }
 }
 
-// `timed`, `next` and `sent`, which stand in a row.
+// `has_next`, `next` and `sent`, which stand in a row.
 fn put_again(s: &mut [u8], at: usize, next: Again, n: u32) -> usize
     requires { ⌜ at + 13 ≤ length (now s) ⌝ }
     ensures { λ r. ⌜ Wrote (now (s .entry)) at 13 ((one (next .some) ∷ []) ++ digits 8 (next .at) ++ digits 4 n) (now (s .exit)) r ⌝ }

@@ -2,8 +2,8 @@
 use crate::map::leg_count;
 use legs_entry::at::answers_at;
 use legs_entry::at::deadline_at;
+use legs_entry::at::has_next_at;
 use legs_entry::at::next_at;
-use legs_entry::at::timed_at;
 use node_addr::Found;
 ghost use mathlib.Core.Path.{_≡_};
 ghost use mathlib.Core.Bool.{true, false};
@@ -51,7 +51,7 @@ pub fn resend_due(s: &[u8], i: usize, clock: u64) -> bool
     requires { ⌜ i < legCount (now s) ⌝ }
     ensures { λ r. ⌜ r ≡ resendDue clock (legAt (now (s .entry)) i) ⌝ }
 {
-    if !timed_at(s, i) {
+    if !has_next_at(s, i) {
         return false;
     }
     next_at(s, i) <= clock
@@ -97,7 +97,7 @@ pub fn wake_at(s: &[u8], i: usize) -> u64
     ensures { λ r. ⌜ r ≡ wake (legAt (now (s .entry)) i) ⌝ }
 {
     let d = deadline_at(s, i);
-    if !timed_at(s, i) {
+    if !has_next_at(s, i) {
         return d;
     }
     let n = next_at(s, i);

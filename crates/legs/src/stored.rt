@@ -2,28 +2,24 @@
 use crate::map::find_leg;
 use crate::map::leg_count;
 use legs_entry::at::stored_at;
-use lib_bytes::read::get_byte;
 use links_entry::read::link_count;
 use links_entry::read::no_at;
+use links_entry::read::path_count_at;
 use links_entry::read::released_at;
 use links_entry::read::setup_eq_wire;
+use links_entry::read::wire_proven_at;
 use node_addr::Found;
 use node_addr::LinkNo;
-use node_addr::place::eq_wire_pair;
 ghost use mathlib.Core.Path.{_≡_};
 ghost use mathlib.Core.Bool.{false};
-ghost use mathlib.Core.List.{[]};
 ghost use Prim.Native.Nat.{_+_, _≤_, _<_};
 ghost use lib.ListN.{length, take, drop, getD};
-ghost use Rattle.rules.specs.Links.{provenAt};
 ghost use Rattle.rules.specs.Settle.{storedIn};
-ghost use Rattle.lib_laws.specs.Chunk.{chunks};
 ghost use Rattle.node_addr.specs.Place.{pairHere, PairIn};
-ghost use Rattle.links_entry.specs.View.{pathOf, FitPaths, pathCount, FitLinks, viewLinks, linkCount};
+ghost use Rattle.links_entry.specs.View.{FitLinks, viewLinks, linkCount};
 ghost use Rattle.legs_entry.specs.View.{FitLegs, viewLegs};
 ghost use Rattle.legs.specs.Stored.{Tells, yieldOf, reach, toLook};
 ghost use Rattle.legs.specs.Addresses.{linkAt};
-ghost use Rattle.links_entry.specs.Layout.{pathCap, pathWidth};
 
 // The leg on a link, if it yields its msg2 for the `len` bytes from `at` on.
 pub fn yielding(s: &[u8], n: LinkNo, rec: &[u8], at: usize, len: usize) -> Found
@@ -40,20 +36,6 @@ pub fn yielding(s: &[u8], n: LinkNo, rec: &[u8], at: usize, len: usize) -> Found
     Found::At(i)
 }
 
-// Whether the j-th of a link's paths is at the pair that the record spells from `from` on, and counts.
-fn proven_path(s: &[u8], j: usize, rec: &[u8], from: usize) -> bool
-    requires { ⌜ FitPaths (now s) ⌝ }
-    requires { ⌜ j < pathCount (now s) ⌝ }
-    requires { ⌜ PairIn (now rec) from ⌝ }
-    ensures { λ r. ⌜ r ≡ provenAt (pairHere (drop from (now (rec .entry)))) (pathOf (getD (chunks pathWidth pathCap (now (s .entry))) j [])) ⌝ }
-{
-    let at = j * 54;
-    if get_byte(s, at + 53) == 2 {
-        return false;
-    }
-    eq_wire_pair(s, at, rec, from)
-}
-
 // How many addresses of the i-th link are to be looked at, the setup and its paths: none where no leg yields.
 fn addresses(links: &[u8], i: usize, f: Found) -> usize
     requires { ⌜ FitLinks (now links) ⌝ }
@@ -61,7 +43,7 @@ fn addresses(links: &[u8], i: usize, f: Found) -> usize
     ensures { λ r. ⌜ r ≡ toLook f (linkAt (now (links .entry)) i) ⌝ }
 {
     match f {
-        Found::At(_) => get_byte(links, i * 297 + 296) as usize + 1,
+        Found::At(_) => path_count_at(links, i) + 1,
         Found::Nothing => 0,
     }
 }
@@ -80,9 +62,7 @@ fn reached(links: &[u8], i: usize, j: usize, rec: &[u8], from: usize) -> bool
         }
         return setup_eq_wire(links, i, rec, from);
     }
-    let first = i * 297 + 80;
-    let end = first + 217;
-    proven_path(&links[first..end], j - 1, rec, from)
+    wire_proven_at(links, i, j - 1, rec, from)
 }
 
 // The place of the leg whose link and msg2 `stored` answers, for the pair that the record spells from `from` on and its n bytes from `at` on. A link whose leg yields none is passed over, whatever its addresses.

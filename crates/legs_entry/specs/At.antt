@@ -89,7 +89,7 @@ answer-is false a b = b refl
 
 no-answer : (fs : List Bytes) → BlankCells fs → answerFrom fs ≡ noAnswer
 unfolding more
-no-answer fs b = rw (b .marked, b .replaces, b .epoch, b .digest, b .len2)
+no-answer fs b = rw (b .«answer_sent», b .replaces, b .epoch, b .digest, b .len2)
 
 -- ---- cells, where they stand
 module _ {s : Bytes} {i : ℕ} (f : FitLegs s) (h : i < legCount s) where

@@ -31,8 +31,8 @@ use Rattle.legs_entry.specs.View.{legFrom, legOf, BlankCells, FitCells, 
 
 -- ---- what is written
 abbrev pub legFields : leg.Leg → List Bytes
-legFields l = digits 8 (l .link .0) ∷ digits 8 (l .deadline) ∷ (one (l .timed) ∷ []) ∷ digits 8 (l .next) ∷ digits 4 (l .sent) ∷ digits 4 (l .lease)
-    ∷ (one (l .answer) ∷ []) ∷ (one (l .named) ∷ []) ∷ l .peer .0 ∷ (one (l .marked) ∷ []) ∷ (one (l .replaces) ∷ []) ∷ digits 8 (l .epoch) ∷ l .digest .0
+legFields l = digits 8 (l .link .0) ∷ digits 8 (l .deadline) ∷ (one (l .«has_next») ∷ []) ∷ digits 8 (l .next) ∷ digits 4 (l .sent) ∷ digits 4 (l .lease)
+    ∷ (one (l .answer) ∷ []) ∷ (one (l .«has_peer») ∷ []) ∷ l .peer .0 ∷ (one (l .«answer_sent») ∷ []) ∷ (one (l .replaces) ∷ []) ∷ digits 8 (l .epoch) ∷ l .digest .0
     ∷ (l .msg1 .len ∷ []) ∷ l .msg1 .bytes ∷ (l .msg2 .len ∷ []) ∷ l .msg2 .bytes ∷ []
 
 unfoldable pub legBytes : leg.Leg → Bytes
@@ -40,10 +40,10 @@ legBytes l = joined (legFields l)
 
 -- as the writers put it: the times, the ends, the messages
 abbrev pub timeBytes : leg.Leg → Bytes
-timeBytes l = digits 8 (l .link .0) ++ digits 8 (l .deadline) ++ (one (l .timed) ∷ []) ++ digits 8 (l .next) ++ digits 4 (l .sent) ++ digits 4 (l .lease)
+timeBytes l = digits 8 (l .link .0) ++ digits 8 (l .deadline) ++ (one (l .«has_next») ∷ []) ++ digits 8 (l .next) ++ digits 4 (l .sent) ++ digits 4 (l .lease)
 
 abbrev pub endBytes : leg.Leg → Bytes
-endBytes l = (one (l .answer) ∷ []) ++ (one (l .named) ∷ []) ++ l .peer .0 ++ (one (l .marked) ∷ []) ++ (one (l .replaces) ∷ []) ++ digits 8 (l .epoch) ++ l .digest .0
+endBytes l = (one (l .answer) ∷ []) ++ (one (l .«has_peer») ∷ []) ++ l .peer .0 ++ (one (l .«answer_sent») ∷ []) ++ (one (l .replaces) ∷ []) ++ digits 8 (l .epoch) ++ l .digest .0
 
 bytes-are : (l : leg.Leg)
     → timeBytes l ++ endBytes l ++ messageCell (l .msg1) ++ messageCell (l .msg2) ≡ legBytes l
@@ -85,7 +85,7 @@ optional-bytes false n s e h = record { flag = flag-code false; size = e; blank 
 blank-fields : (l : leg.Leg) → BlankLeg l → BlankCells (legFields l)
 unfolding digits
 blank-fields l b = record {
-  marked = rw (b .marked);
+  «answer_sent» = rw (b .«answer_sent»);
   replaces = rw (b .replaces);
   epoch = rw (b .epoch);
   digest = b .digest;
@@ -95,10 +95,10 @@ blank-fields l b = record {
 
 fit-fields : (l : leg.Leg) → FitLeg l → FitCells (legFields l)
 fit-fields l f = record {
-  next = optional-number (l .timed) (l .next) (f .untimed);
+  next = optional-number (l .«has_next») (l .next) (f .untimed);
   answer = flag-code (l .answer);
-  peer = optional-bytes (l .named) 16 (l .peer .0) (f .peer) (f .unnamed);
-  marked = flag-code (l .marked);
+  peer = optional-bytes (l .«has_peer») 16 (l .peer .0) (f .peer) (f .unnamed);
+  «answer_sent» = flag-code (l .«answer_sent»);
   replaces = flag-code (l .replaces);
   msg1 = record { size = refl; kept = f .msg1 .kept };
   msg2 = record { size = refl; kept = f .msg2 .kept };
@@ -125,13 +125,13 @@ leg-bytes l f b =
     ∙ rw (
       more-digits 8 (l .link .0) (b .link .fits),
       more-digits 8 (l .deadline) (b .deadline .fits),
-      flag-shows (l .timed),
+      flag-shows (l .«has_next»),
       more-digits 8 (l .next) (b .next .fits),
       more-digits 4 (l .sent) (b .sent .fits),
       more-digits 4 (l .lease) (b .lease .fits),
       flag-shows (l .answer),
-      flag-shows (l .named),
-      flag-shows (l .marked),
+      flag-shows (l .«has_peer»),
+      flag-shows (l .«answer_sent»),
       flag-shows (l .replaces),
       more-digits 8 (l .epoch) (b .epoch .fits),
     )
@@ -151,14 +151,14 @@ leg-here s i f h = ap legFrom (cells-here s i f h) ∙ shown legOf i [] noLeg (f
 pub record Loaded (l : leg.Leg) (a : ℕ) (s : Bytes) : Type 0 where
   pub link : l .link .0 ≡ num (take 8 (drop a s))
   pub deadline : l .deadline ≡ num (take 8 (drop (a + atDeadline) s))
-  pub timed : l .timed ≡ flagOf (take 1 (drop (a + atHasNext) s))
+  pub «has_next» : l .«has_next» ≡ flagOf (take 1 (drop (a + atHasNext) s))
   pub next : l .next ≡ num (take 8 (drop (a + atNextResend) s))
   pub sent : l .sent ≡ num (take 4 (drop (a + atSent) s))
   pub lease : l .lease ≡ num (take 4 (drop (a + atLease) s))
   pub answer : l .answer ≡ flagOf (take 1 (drop (a + atAnswer) s))
-  pub named : l .named ≡ flagOf (take 1 (drop (a + atHasPeer) s))
+  pub «has_peer» : l .«has_peer» ≡ flagOf (take 1 (drop (a + atHasPeer) s))
   pub peer : l .peer .0 ≡ take 16 (drop (a + atPeer) s)
-  pub marked : l .marked ≡ flagOf (take 1 (drop (a + atAnswerSent) s))
+  pub «answer_sent» : l .«answer_sent» ≡ flagOf (take 1 (drop (a + atAnswerSent) s))
   pub replaces : l .replaces ≡ flagOf (take 1 (drop (a + atReplaces) s))
   pub epoch : l .epoch ≡ num (take 8 (drop (a + atEpoch) s))
   pub digest : l .digest .0 ≡ take 32 (drop (a + atDigest) s)
@@ -193,7 +193,7 @@ unfolding more
 blank-loaded l s i r b =
     let m = blank-message (r .fit2) (r .msg2 ∙ message-is s (i * legWidth) atMsg2 ∙ rw (b .len2)) in
     record {
-      marked = r .marked ∙ rw (b .marked);
+      «answer_sent» = r .«answer_sent» ∙ rw (b .«answer_sent»);
       replaces = r .replaces ∙ rw (b .replaces);
       epoch = r .epoch ∙ rw (b .epoch);
       digest = r .digest ∙ b .digest;
@@ -206,14 +206,14 @@ leg-loaded s i l f h r =
     let z : i * legWidth + 0 ≡ i * legWidth = add-zero (i * legWidth) in
     let k = fit-here s i f h in
     let v : viewLeg l ≡ legFrom (cuts (i * legWidth) 0 legWs s) =
-    rw (r .link, r .deadline, r .timed, r .next, r .sent, r .lease, r .answer, r .named, r .peer, r .marked, r .replaces, r .epoch, r .digest, r .msg1, r .msg2, message-is s (i * legWidth) atMsg1, message-is s (i * legWidth) atMsg2, z) in (
+    rw (r .link, r .deadline, r .«has_next», r .next, r .sent, r .lease, r .answer, r .«has_peer», r .peer, r .«answer_sent», r .replaces, r .epoch, r .digest, r .msg1, r .msg2, message-is s (i * legWidth) atMsg1, message-is s (i * legWidth) atMsg2, z) in (
       record {
         peer = rw (r .peer) (k .peer .size);
         digest = rw (r .digest) (length-take-le 32 (drop (i * legWidth + atDigest) s) (rw length-drop (omega arith)));
         msg1 = r .fit1;
         msg2 = r .fit2;
-        untimed = λ e. r .next ∙ ap num (clear (k .next) (r .timed) e) ∙ num-zeros;
-        unnamed = λ e. r .peer ∙ clear (k .peer) (r .named) e;
+        untimed = λ e. r .next ∙ ap num (clear (k .next) (r .«has_next») e) ∙ num-zeros;
+        unnamed = λ e. r .peer ∙ clear (k .peer) (r .«has_peer») e;
         dial = λ e. blank-loaded l s i r (k .dial (sym (r .answer) ∙ e));
       },
       v ∙ leg-here s i f h,

@@ -50,7 +50,7 @@ legOf c = legFrom (cuts 0 0 legWs c)
 
 -- what a dial leaves blank
 pub record BlankCells (fs : List Bytes) : Type 0 where
-  pub marked : cell fs 9 ≡ 0 ∷ []
+  pub «answer_sent» : cell fs 9 ≡ 0 ∷ []
   pub replaces : cell fs 10 ≡ 0 ∷ []
   pub epoch : cell fs 11 ≡ replicate 8 0
   pub digest : cell fs 12 ≡ replicate 32 0
@@ -62,7 +62,7 @@ pub record FitCells (fs : List Bytes) : Type 0 where
   pub next : Optional 8 (cell fs 2) (cell fs 3)
   pub answer : Code 2 (cell fs 6)
   pub peer : Optional 16 (cell fs 7) (cell fs 8)
-  pub marked : Code 2 (cell fs 9)
+  pub «answer_sent» : Code 2 (cell fs 9)
   pub replaces : Code 2 (cell fs 10)
   pub msg1 : Text 128 (cell fs 13) (cell fs 14)
   pub msg2 : Text 128 (cell fs 15) (cell fs 16)
@@ -97,11 +97,11 @@ fit-zeros = record {
   next = record { flag = record { size = refl; low = lit< tt }; size = refl; blank = λ e. refl };
   answer = record { size = refl; low = lit< tt };
   peer = record { flag = record { size = refl; low = lit< tt }; size = refl; blank = λ e. refl };
-  marked = record { size = refl; low = lit< tt };
+  «answer_sent» = record { size = refl; low = lit< tt };
   replaces = record { size = refl; low = lit< tt };
   msg1 = no-text;
   msg2 = no-text;
-  dial = λ e. record { marked = refl; replaces = refl; epoch = refl; digest = refl; len2 = refl; msg2 = refl };
+  dial = λ e. record { «answer_sent» = refl; replaces = refl; epoch = refl; digest = refl; len2 = refl; msg2 = refl };
 }
 
 -- ---- a leg by value
@@ -111,23 +111,23 @@ viewKind l = if l .answer then Kind.Answer (record {
   ephemeral = l .digest .0;
   epoch = l .epoch;
   replaces = l .replaces;
-  sent = l .marked;
+  sent = l .«answer_sent»;
 }) else Kind.Dial
 
 abbrev pub viewLeg : leg.Leg → Leg
 viewLeg l = record {
   link = l .link .0;
-  peer = if l .named then some (l .peer .0) else none;
+  peer = if l .«has_peer» then some (l .peer .0) else none;
   kind = viewKind l;
   msg1 = viewMessage (l .msg1);
   sent = l .sent;
-  next = if l .timed then some (l .next) else none;
+  next = if l .«has_next» then some (l .next) else none;
   deadline = l .deadline;
   lease = l .lease;
 }
 
 pub record BlankLeg (l : leg.Leg) : Type 0 where
-  pub marked : l .marked ≡ false
+  pub «answer_sent» : l .«answer_sent» ≡ false
   pub replaces : l .replaces ≡ false
   pub epoch : l .epoch ≡ 0
   pub digest : l .digest .0 ≡ replicate 32 0
@@ -139,6 +139,6 @@ pub record FitLeg (l : leg.Leg) : Type 0 where
   pub digest : length (l .digest .0) ≡ 32
   pub msg1 : FitMessage (l .msg1)
   pub msg2 : FitMessage (l .msg2)
-  pub untimed : l .timed ≡ false → l .next ≡ 0
-  pub unnamed : l .named ≡ false → l .peer .0 ≡ replicate 16 0
+  pub untimed : l .«has_next» ≡ false → l .next ≡ 0
+  pub unnamed : l .«has_peer» ≡ false → l .peer .0 ≡ replicate 16 0
   pub dial : l .answer ≡ false → BlankLeg l

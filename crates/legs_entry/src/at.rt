@@ -70,7 +70,7 @@ pub fn answers_at(s: &[u8], i: usize) -> bool
 }
 
 // Whether it names a peer.
-pub fn named_at(s: &[u8], i: usize) -> bool
+pub fn has_peer_at(s: &[u8], i: usize) -> bool
     requires { ⌜ FitLegs (now s) ⌝ }
     requires { ⌜ i < legCount (now s) ⌝ }
     ensures { λ r. ⌜ r ≡ is (legAt (now (s .entry)) i .peer) ⌝ }
@@ -88,7 +88,7 @@ pub fn peer_at(s: &[u8], i: usize) -> NodeAddr
 }
 
 // Whether a resend is to come.
-pub fn timed_at(s: &[u8], i: usize) -> bool
+pub fn has_next_at(s: &[u8], i: usize) -> bool
     requires { ⌜ FitLegs (now s) ⌝ }
     requires { ⌜ i < legCount (now s) ⌝ }
     ensures { λ r. ⌜ r ≡ is (legAt (now (s .entry)) i .next) ⌝ }
@@ -133,7 +133,7 @@ pub fn replaces_at(s: &[u8], i: usize) -> bool
 }
 
 // Whether the answer was sent.
-pub fn marked_at(s: &[u8], i: usize) -> bool
+pub fn answer_sent_at(s: &[u8], i: usize) -> bool
     requires { ⌜ FitLegs (now s) ⌝ }
     requires { ⌜ i < legCount (now s) ⌝ }
     ensures { λ r. ⌜ r ≡ answerOf (legAt (now (s .entry)) i) .sent ⌝ }
@@ -169,7 +169,7 @@ pub fn stored_at(s: &[u8], i: usize, rec: &[u8], at: usize, n: usize) -> bool
     if !answers_at(s, i) {
         return false;
     }
-    if !marked_at(s, i) {
+    if !answer_sent_at(s, i) {
         return true;
     }
     let k = msg1_len_at(s, i);

@@ -6,10 +6,10 @@ use lib_bytes::write::put_be;
 use lib_bytes::write::put_byte;
 use lib_region::remove_chunk;
 use links_entry::layout::HOLDER;
-use links_entry::layout::HOLDER_PEER;
 use links_entry::layout::LINK_CAP;
 use links_entry::layout::LINK_COUNT;
 use links_entry::layout::LINK_WIDTH;
+use links_entry::layout::OPENED_BLANK;
 use links_entry::layout::PATHS;
 use links_entry::layout::PATHS_LEN;
 use links_entry::layout::RELEASED;
@@ -60,7 +60,7 @@ pub fn open_link(s: &mut [u8], n: LinkNo, p: Pair, d: Dir)
     let b = put_pair(s, a, p);
     let c = put_byte(s, b, code);
     let e = put_byte(s, c, 1);
-    clear(s, e, LINK_WIDTH - HOLDER_PEER);
+    clear(s, e, OPENED_BLANK);
     s[LINK_COUNT] = (len + 1) as u8;
 }
 

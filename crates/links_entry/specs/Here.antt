@@ -163,6 +163,28 @@ module _ {s : Bytes} {i : ℕ} (f : FitLinks s) (h : i < linkCount s) where
   pub paths-show : viewPaths (take (span i) (drop (i * linkWidth + atPaths) s)) ≡ getD (viewLinks s) i noLink .paths
   paths-show = ap (λ (k : ℕ). viewPaths (take k (drop (i * linkWidth + atPaths) s))) (span-is i) ∙ paths-here f h
 
+-- how many paths a link has, and the j-th of them
+module _ {s : Bytes} {i : ℕ} (f : FitLinks s) (h : i < linkCount s) where
+  paths-count : pathCount (take pathsLen (drop (i * linkWidth + atPaths) s)) ≡ getD s (i * linkWidth + atLinkPathCount) 0
+  paths-count =
+      let e : i * linkWidth + atPaths + atPathCount ≡ i * linkWidth + atLinkPathCount = omega arith in
+      byte-in s (i * linkWidth + atPaths) pathsLen atPathCount (lit< tt) ∙ ap (λ (k : ℕ). getD s k 0) e
+
+  paths-length : length (getD (viewLinks s) i noLink .paths) ≡ pathCount (take pathsLen (drop (i * linkWidth + atPaths) s))
+  paths-length = ap length (sym (paths-here f h)) ∙ entries-count pathOf (paths-fit f h)
+
+  pub path-count-is : {n : ℕ} → n ≡ getD s (i * linkWidth + atLinkPathCount) 0 → n ≡ length (getD (viewLinks s) i noLink .paths)
+  path-count-is e = e ∙ sym paths-count ∙ sym paths-length
+
+  pub path-lent : {j : ℕ} → j < length (getD (viewLinks s) i noLink .paths) → j < pathCount (take (span i) (drop (i * linkWidth + atPaths) s))
+  path-lent {j} l = rw (span-is i) (subst (λ (n : ℕ). j < n) paths-length l)
+
+  pub path-is : {j : ℕ} (g : PathRec → Bool) {b : Bool} → j < length (getD (viewLinks s) i noLink .paths)
+      → b ≡ g (pathOf (getD (chunks pathWidth pathCap (take (span i) (drop (i * linkWidth + atPaths) s))) j [])) → b ≡ g (getD (getD (viewLinks s) i noLink .paths) j noPath)
+  path-is {j} g l e =
+      (rw (span-is i) at e)
+      ∙ ap g (shown pathOf j [] noPath (paths-fit f h .kept) (subst (λ (n : ℕ). j < n) paths-length l) ∙ ap (λ (ws : List PathRec). getD ws j noPath) (paths-here f h))
+
 -- whether a link's setup is in use
 module _ {s : Bytes} {i : ℕ} (f : FitLinks s) (h : i < linkCount s) {b : ℕ} (e : b ≡ getD s (i * linkWidth + atLinkPathCount) 0) where
   pub waits-yes : b ≡ 0 → true ≡ (empty (getD (viewLinks s) i noLink .paths) || isLeg (getD (viewLinks s) i noLink .holder))

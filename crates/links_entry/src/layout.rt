@@ -36,6 +36,9 @@ pub const LINK_PATH_COUNT: usize = PATHS + PATH_COUNT;
 
 pub const LINK_WIDTH: usize = PATHS + PATHS_LEN;
 
+// The end of a new link's entry, which is zeros: a leg holds it, and it has no paths.
+pub const OPENED_BLANK: usize = LINK_WIDTH - HOLDER_PEER;
+
 pub const LINK_CAP: usize = 32;
 
 pub const LINK_COUNT: usize = LINK_CAP * LINK_WIDTH;

@@ -13,14 +13,15 @@ use lib_region::remove_chunk;
 use node_addr::Found;
 use node_addr::Pair;
 use node_addr::blank_pair;
-use node_addr::place::load_pair;
 use node_addr::place::eq_pair_at;
+use node_addr::place::eq_wire_pair;
+use node_addr::place::load_pair;
 use node_addr::place::put_pair;
 ghost use mathlib.Core.Path.{_≡_};
 ghost use mathlib.Core.Bool.{false, not};
 ghost use mathlib.Core.List.{[], _∷_, _++_, map};
 ghost use Prim.Native.Nat.{_<_};
-ghost use lib.ListN.{take, getD, set};
+ghost use lib.ListN.{take, drop, getD, set};
 ghost use Rattle.rules.specs.Base.{any, keep};
 ghost use Rattle.rules.specs.Field.{stateCode};
 ghost use Rattle.rules.specs.Links.{pathAt, provenAt, setPath};
@@ -28,6 +29,7 @@ ghost use Rattle.lib_laws.specs.Shift.{Kept, erase};
 ghost use Rattle.lib_laws.specs.Scan.{scan};
 ghost use Rattle.lib_laws.specs.Chunk.{chunks};
 ghost use Rattle.node_addr.specs.View.{FitPair, viewPair, Finds};
+ghost use Rattle.node_addr.specs.Place.{pairHere, PairIn};
 ghost use Rattle.links_entry.specs.Asking.{Sifted};
 ghost use Rattle.links_entry.specs.View.{stateOf, viewProven, FitPaths, viewPaths, pathCount, pathOf, noPath, newPath, inState, full, viewPath, FitPathRec, blankPath};
 ghost use Rattle.links_entry.specs.Layout.{pathCap, pathWidth};
@@ -54,6 +56,20 @@ fn proven_path(s: &[u8], j: usize, p: Pair) -> bool
         return false;
     }
     eq_pair_at(s, at, p)
+}
+
+// Whether the j-th of a link's paths is at the pair that the record spells from `from` on, and counts.
+pub(crate) fn wire_proven_path(s: &[u8], j: usize, rec: &[u8], from: usize) -> bool
+    requires { ⌜ FitPaths (now s) ⌝ }
+    requires { ⌜ j < pathCount (now s) ⌝ }
+    requires { ⌜ PairIn (now rec) from ⌝ }
+    ensures { λ r. ⌜ r ≡ provenAt (pairHere (drop from (now (rec .entry)))) (pathOf (getD (chunks pathWidth pathCap (now (s .entry))) j [])) ⌝ }
+{
+    let a = j * PATH_WIDTH;
+    if get_byte(s, a + PATH_STATE) == PROBING {
+        return false;
+    }
+    eq_wire_pair(s, a, rec, from)
 }
 
 // Whether a path is at the pair and counts.

@@ -12,6 +12,7 @@ use crate::layout::SETUP;
 use crate::paths::full_at;
 use crate::paths::load_paths;
 use crate::paths::proves;
+use crate::paths::wire_proven_path;
 use crate::record::Dir;
 use crate::record::LinkRec;
 use lib_bytes::layout::U64;
@@ -22,9 +23,9 @@ use node_addr::Found;
 use node_addr::LinkNo;
 use node_addr::NodeAddr;
 use node_addr::Pair;
-use node_addr::place::load_pair;
 use node_addr::place::eq_pair_at;
 use node_addr::place::eq_wire_pair;
+use node_addr::place::load_pair;
 ghost use mathlib.Core.Path.{_≡_};
 ghost use mathlib.Core.Bool.{_||_};
 ghost use Prim.Native.Nat.{_<_};
@@ -35,7 +36,7 @@ ghost use Rattle.rules.specs.Links.{numbered, isLeg, provenAt, uses, inUse, ind
 ghost use Rattle.lib_laws.specs.Scan.{scan};
 ghost use Rattle.node_addr.specs.View.{FitPair, viewPair, Finds};
 ghost use Rattle.node_addr.specs.Place.{pairHere, PairIn};
-ghost use Rattle.links_entry.specs.View.{outward, FitLinks, viewLinks, linkCount, noLink, dirOf, viewDir, viewLink, FitRec, full, crowding};
+ghost use Rattle.links_entry.specs.View.{outward, FitLinks, viewLinks, linkCount, noLink, noPath, dirOf, viewDir, viewLink, FitRec, full, crowding};
 
 // How many there are.
 pub fn link_count(s: &[u8]) -> usize
@@ -130,6 +131,28 @@ pub fn proven_at(s: &[u8], i: usize, p: Pair) -> bool
     let from = i * LINK_WIDTH + PATHS;
     let end = from + PATHS_LEN;
     proves(&s[from..end], p)
+}
+
+// How many paths the link at a place has.
+pub fn path_count_at(s: &[u8], i: usize) -> usize
+    requires { ⌜ FitLinks (now s) ⌝ }
+    requires { ⌜ i < linkCount (now s) ⌝ }
+    ensures { λ r. ⌜ r ≡ length (getD (viewLinks (now (s .entry))) i noLink .paths) ⌝ }
+{
+    get_byte(s, i * LINK_WIDTH + LINK_PATH_COUNT) as usize
+}
+
+// Whether the j-th path of the link at a place is at the pair that a record spells from `from` on, and counts.
+pub fn wire_proven_at(s: &[u8], i: usize, j: usize, rec: &[u8], from: usize) -> bool
+    requires { ⌜ FitLinks (now s) ⌝ }
+    requires { ⌜ i < linkCount (now s) ⌝ }
+    requires { ⌜ PairIn (now rec) from ⌝ }
+    requires { ⌜ j < length (getD (viewLinks (now s)) i noLink .paths) ⌝ }
+    ensures { λ r. ⌜ r ≡ provenAt (pairHere (drop from (now (rec .entry)))) (getD (getD (viewLinks (now (s .entry))) i noLink .paths) j noPath) ⌝ }
+{
+    let first = i * LINK_WIDTH + PATHS;
+    let end = first + PATHS_LEN;
+    wire_proven_path(&s[first..end], j, rec, from)
 }
 
 // Whether the setup of the link at a place is in use: no paths yet, or a leg holds the link.

@@ -5,7 +5,7 @@ pub mod run;
 pub mod same;
 
 ghost use mathlib.Core.Path.{_≡_};
-ghost use Rattle.node_addr.specs.View.{blankNode, blankDigest, blankAddr, blankPair, blankMessage};
+ghost use Rattle.node_addr.specs.View.{blankDigest, blankPair, blankMessage};
 
 pub struct NodeAddr(pub [u8; 16]);
 
@@ -38,26 +38,10 @@ pub enum Found {
     Nothing,
 }
 
-pub fn blank_node() -> NodeAddr
-    ensures { λ r. ⌜ r ≡ blankNode ⌝ }
-{
-    NodeAddr([0u8; 16])
-}
-
 pub fn blank_digest() -> Digest
     ensures { λ r. ⌜ r ≡ blankDigest ⌝ }
 {
     Digest([0u8; 32])
-}
-
-pub fn blank_addr() -> Addr
-    ensures { λ r. ⌜ r ≡ blankAddr ⌝ }
-{
-    let bytes = [0u8; 48];
-    Addr {
-        len: 0,
-        bytes: bytes,
-    }
 }
 
 pub fn blank_pair() -> Pair

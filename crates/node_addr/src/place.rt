@@ -6,24 +6,21 @@ use crate::NodeAddr;
 use crate::Pair;
 use crate::TransportId;
 use crate::layout::ADDR_CAP;
-use crate::layout::MESSAGE_BYTES;
 use crate::layout::MESSAGE_CAP;
 use crate::layout::PAIR_ADDR;
 use crate::layout::PAIR_LEN;
 use crate::run::eq_16;
 use crate::run::eq_32;
 use crate::run::eq_48;
-use lib_bytes::compare::lt_bytes;
 use lib_bytes::compare::eq_long;
-use lib_bytes::compare::eq_bytes;
 use lib_bytes::compare::eq_short;
+use lib_bytes::compare::lt_bytes;
 use lib_bytes::layout::U32;
 use lib_bytes::read::get_be;
 use lib_bytes::read::get_byte;
 use lib_bytes::read::take_16;
 use lib_bytes::read::take_32;
 use lib_bytes::read::take_48;
-use lib_bytes::read::take_128;
 use lib_bytes::write::put_16;
 use lib_bytes::write::put_32;
 use lib_bytes::write::put_48;
@@ -37,8 +34,8 @@ ghost use Rattle.rules.specs.Base.{same};
 ghost use Rattle.rules.specs.Std.{before};
 ghost use Rattle.rules.specs.Data.{samePair};
 ghost use Rattle.lib_laws.specs.Splice.{Wrote};
-ghost use Rattle.node_addr.specs.View.{viewPair, viewMessage, FitPair, FitMessage};
-ghost use Rattle.node_addr.specs.Place.{pairOf, pairHere, PairIn, pairCell, PairCell, messageOf, messageCell, MessageCell};
+ghost use Rattle.node_addr.specs.View.{viewPair, FitPair, FitMessage};
+ghost use Rattle.node_addr.specs.Place.{pairOf, pairHere, PairIn, pairCell, PairCell, messageCell};
 ghost use Rattle.node_addr.specs.Layout.{messageWidth, pairWidth};
 
 pub fn load_node(s: &[u8], at: usize) -> NodeAddr
@@ -173,20 +170,6 @@ pub fn load_wire_pair(rec: &[u8], from: usize) -> Pair
     }
 }
 
-pub fn load_message(s: &[u8], at: usize) -> Message
-    requires { ⌜ at + messageWidth ≤ length (now s) ⌝ }
-    requires { ⌜ MessageCell (take messageWidth (drop at (now s))) ⌝ }
-    ensures { λ r. ⌜ FitMessage r ⌝ }
-    ensures { λ r. ⌜ viewMessage r ≡ messageOf (take messageWidth (drop at (now (s .entry)))) ⌝ }
-{
-    let n = get_byte(s, at);
-    let b = take_128(s, at + MESSAGE_BYTES, MESSAGE_CAP);
-    Message {
-        len: n as usize,
-        bytes: b,
-    }
-}
-
 pub fn put_message(s: &mut [u8], at: usize, m: Message) -> usize
     requires { ⌜ FitMessage m ⌝ }
     requires { ⌜ at + messageWidth ≤ length (now s) ⌝ }
@@ -195,17 +178,4 @@ pub fn put_message(s: &mut [u8], at: usize, m: Message) -> usize
     let b = m.bytes;
     let n = put_byte(s, at, m.len as u8);
     put_128(s, n, b, MESSAGE_CAP)
-}
-
-pub fn message_here(s: &[u8], at: usize, m: Message) -> bool
-    requires { ⌜ FitMessage m ⌝ }
-    requires { ⌜ at + messageWidth ≤ length (now s) ⌝ }
-    requires { ⌜ MessageCell (take messageWidth (drop at (now s))) ⌝ }
-    ensures { λ r. ⌜ r ≡ same (viewMessage m) (messageOf (take messageWidth (drop at (now (s .entry))))) ⌝ }
-{
-    if get_byte(s, at) as usize != m.len {
-        return false;
-    }
-    let b = m.bytes;
-    eq_bytes(&b, 0, s, at + 1, 128)
 }

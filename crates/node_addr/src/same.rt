@@ -1,19 +1,17 @@
 // Whether two values are the same, and the order of node addresses.
 use crate::Addr;
 use crate::Digest;
-use crate::Message;
 use crate::NodeAddr;
 use crate::Pair;
 use crate::run::eq_16;
 use crate::run::eq_32;
 use crate::run::eq_48;
 use lib_bytes::compare::lt_bytes;
-use lib_bytes::compare::eq_bytes;
 ghost use mathlib.Core.Path.{_≡_};
 ghost use Rattle.rules.specs.Base.{same};
 ghost use Rattle.rules.specs.Std.{before};
 ghost use Rattle.rules.specs.Data.{samePair};
-ghost use Rattle.node_addr.specs.View.{viewAddr, viewPair, viewMessage, FitAddr, FitPair, FitMessage};
+ghost use Rattle.node_addr.specs.View.{viewAddr, viewPair, FitAddr, FitPair};
 
 pub fn same_node(a: NodeAddr, b: NodeAddr) -> bool
     ensures { λ r. ⌜ r ≡ same (a .0) (b .0) ⌝ }
@@ -63,17 +61,4 @@ pub fn same_pair(a: Pair, b: Pair) -> bool
     let x = a.addr;
     let y = b.addr;
     same_addr(x, y)
-}
-
-pub fn same_message(a: Message, b: Message) -> bool
-    requires { ⌜ FitMessage a ⌝ }
-    requires { ⌜ FitMessage b ⌝ }
-    ensures { λ r. ⌜ r ≡ same (viewMessage a) (viewMessage b) ⌝ }
-{
-    if a.len != b.len {
-        return false;
-    }
-    let x = a.bytes;
-    let y = b.bytes;
-    eq_bytes(&x, 0, &y, 0, 128)
 }

@@ -1,6 +1,8 @@
 // The entries: a table is made by `new`, and changed by `call` alone. Both answer every record, whatever its bytes.
 pub mod export;
+pub mod layout;
 
+use crate::layout::BUFFER_LEN;
 use call_contract::Answer;
 use call_step::step;
 use input_frame::read_header;
@@ -31,7 +33,7 @@ pub fn call(table: &mut [u8], input: &[u8], out: &mut [u8]) -> Answer
     requires { ⌜ Left (now table) ⌝ }
     ensures { λ r. ⌜ Called (now (table .entry)) (now (input .entry)) (now (out .entry)) (now (table .exit)) (now (out .exit)) (r .number) (r .len) ⌝ }
 {
-    if out.len() < 10240 {
+    if out.len() < BUFFER_LEN {
         return Answer { number: 2, len: 0 };
     }
     let r = read_header(input);

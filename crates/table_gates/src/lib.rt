@@ -75,12 +75,12 @@ pub fn promoted(t: &mut [u8], peer: NodeAddr, digest: Digest, clock: u64, c: Par
     gates::calls::promoted(&mut t[GATES..GATES_END], peer, digest, clock, c);
 }
 
-// A session of the peer ended unheard; `setup` is the digest of the msg1 that it came from, if it came from one (`answered`).
+// A session of the peer ended unheard; `setup` is the digest of the msg1 that it came from, if it came from one (`has_setup`).
 pub fn ended(
     t: &mut [u8],
     peer: NodeAddr,
     epoch: u64,
-    answered: bool,
+    has_setup: bool,
     setup: Digest,
     clock: u64,
     c: Params,
@@ -90,13 +90,13 @@ pub fn ended(
     requires { ⌜ All (Within (viewParams c)) (viewTable (now t) .gates) ⌝ }
     requires { ⌜ FitParams c ⌝ }
     requires { ⌜ Room (peer .0) (viewTable (now t) .gates) (length (viewTable (now t) .gates)) ⌝ }
-    ensures { λ r. ⌜ Told (now (t .exit)) (withGates (rule.store (rule.ended (viewParams c) clock (some epoch) (optional answered (setup .0)) (rule.memory (peer .0) (viewTable (now (t .entry)) .gates))) (viewTable (now (t .entry)) .gates)) (viewTable (now (t .entry)))) ⌝ }
+    ensures { λ r. ⌜ Told (now (t .exit)) (withGates (rule.store (rule.ended (viewParams c) clock (some epoch) (optional «has_setup» (setup .0)) (rule.memory (peer .0) (viewTable (now (t .entry)) .gates))) (viewTable (now (t .entry)) .gates)) (viewTable (now (t .entry)))) ⌝ }
 {
     gates::calls::ended(
         &mut t[GATES..GATES_END],
         peer,
         epoch,
-        answered,
+        has_setup,
         setup,
         clock,
         c,

@@ -76,12 +76,12 @@ pub fn held_heard(t: &[u8], i: usize) -> bool
 }
 
 // Whether a frame of its session has been heard.
-pub fn held_dated(t: &[u8], i: usize) -> bool
+pub fn held_has_last(t: &[u8], i: usize) -> bool
     requires { ⌜ FitTable (now t) ⌝ }
     requires { ⌜ i < length (viewTable (now t) .held) ⌝ }
     ensures { λ r. ⌜ r ≡ is (nthHeld (viewTable (now (t .entry))) i .last) ⌝ }
 {
-    held::at::dated_at(&t[HELD..HELD_END], i)
+    held::at::has_last_at(&t[HELD..HELD_END], i)
 }
 
 // When the last frame was heard; 0 if none was.
@@ -94,12 +94,12 @@ pub fn held_last(t: &[u8], i: usize) -> u64
 }
 
 // Whether an answer of this node installed it.
-pub fn held_answered(t: &[u8], i: usize) -> bool
+pub fn held_has_setup(t: &[u8], i: usize) -> bool
     requires { ⌜ FitTable (now t) ⌝ }
     requires { ⌜ i < length (viewTable (now t) .held) ⌝ }
     ensures { λ r. ⌜ r ≡ is (nthHeld (viewTable (now (t .entry))) i .setup) ⌝ }
 {
-    held::at::answered_at(&t[HELD..HELD_END], i)
+    held::at::has_setup_at(&t[HELD..HELD_END], i)
 }
 
 // The digest of the msg1 that was answered; zeros if none was.

@@ -55,14 +55,6 @@ pub fn leg_link(t: &[u8], i: usize) -> LinkNo
     legs::at::link_at(&t[LEGS..LEGS_END], i)
 }
 
-pub fn leg_deadline(t: &[u8], i: usize) -> u64
-    requires { ⌜ FitTable (now t) ⌝ }
-    requires { ⌜ i < length (viewTable (now t) .legs) ⌝ }
-    ensures { λ r. ⌜ r ≡ nthLeg (viewTable (now (t .entry))) i .deadline ⌝ }
-{
-    legs::at::deadline_at(&t[LEGS..LEGS_END], i)
-}
-
 pub fn leg_lease(t: &[u8], i: usize) -> u32
     requires { ⌜ FitTable (now t) ⌝ }
     requires { ⌜ i < length (viewTable (now t) .legs) ⌝ }
@@ -81,12 +73,12 @@ pub fn leg_answers(t: &[u8], i: usize) -> bool
 }
 
 // Whether it names a peer.
-pub fn leg_named(t: &[u8], i: usize) -> bool
+pub fn leg_has_peer(t: &[u8], i: usize) -> bool
     requires { ⌜ FitTable (now t) ⌝ }
     requires { ⌜ i < length (viewTable (now t) .legs) ⌝ }
     ensures { λ r. ⌜ r ≡ is (nthLeg (viewTable (now (t .entry))) i .peer) ⌝ }
 {
-    legs::at::named_at(&t[LEGS..LEGS_END], i)
+    legs::at::has_peer_at(&t[LEGS..LEGS_END], i)
 }
 
 // The peer that it names; zeros if none.

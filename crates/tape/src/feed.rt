@@ -1,6 +1,7 @@
 // A whole tape, record by record, of any length.
-use crate::record::run_new;
+use crate::layout::DONE_LEN;
 use crate::record::run_call;
+use crate::record::run_new;
 use lib_bytes::read::get_be;
 ghost use mathlib.Core.Path.{_≡_};
 ghost use mathlib.Core.Bool.{true, false};
@@ -10,6 +11,7 @@ ghost use Rattle.settle.specs.Contract.{Left};
 ghost use Rattle.tape.specs.Turn.{Opens, Turns};
 ghost use Rattle.tape.specs.Feed.{Into, Cut, Ran, Taped};
 ghost use Rattle.table_layout.specs.Layout.{tableLen};
+ghost use Rattle.tape.specs.Layout.{outLen, recordLen};
 
 fn least(a: u64, b: u64) -> usize
     ensures { λ r. ⌜ r ≡ min a b ⌝ }
@@ -31,7 +33,7 @@ fn read_part(buf: &mut [u8], from: usize, to: usize) -> usize
 
 // The next record of a tape that has `left` bytes more: how many bytes it has, 0 at the tape's end, fewer than it should where the tape is cut.
 fn next_record(buf: &mut [u8], left: u64) -> usize
-    requires { ⌜ length (now buf) ≡ 65537 ⌝ }
+    requires { ⌜ length (now buf) ≡ recordLen ⌝ }
     ensures { λ r. ⌜ Cut left (now (buf .exit)) r ⌝ }
 {
     let head = least(2, left);
@@ -47,12 +49,12 @@ fn next_record(buf: &mut [u8], left: u64) -> usize
 fn first(table: &mut [u8], buf: &[u8], n: usize, out: &mut [u8], show: bool) -> u8
     requires { ⌜ length (now table) ≡ tableLen ⌝ }
     requires { ⌜ n ≤ length (now buf) ⌝ }
-    requires { ⌜ length (now out) ≡ 10245 ⌝ }
+    requires { ⌜ length (now out) ≡ outLen ⌝ }
     ensures { λ r. ⌜ Opens (now (table .entry)) (take n (now (buf .entry))) (now (table .exit)) (now (out .exit)) r ⌝ }
 {
     let number = run_new(table, &buf[..n], out);
     if show {
-        io::write_all(1, &out[..5]);
+        io::write_all(1, &out[..DONE_LEN]);
     }
     number
 }
@@ -61,7 +63,7 @@ fn first(table: &mut [u8], buf: &[u8], n: usize, out: &mut [u8], show: bool) -> 
 fn next(table: &mut [u8], buf: &[u8], n: usize, out: &mut [u8], show: bool) -> usize
     requires { ⌜ Left (now table) ⌝ }
     requires { ⌜ n ≤ length (now buf) ⌝ }
-    requires { ⌜ length (now out) ≡ 10245 ⌝ }
+    requires { ⌜ length (now out) ≡ outLen ⌝ }
     ensures { λ r. ⌜ Turns (now (table .entry)) (take n (now (buf .entry))) (now (table .exit)) (now (out .exit)) r ⌝ }
 {
     let end = run_call(table, &buf[..n], out);
@@ -71,9 +73,9 @@ fn next(table: &mut [u8], buf: &[u8], n: usize, out: &mut [u8], show: bool) -> u
     end
 }
 
-// What is left of a tape whose first record was refused is read and passed over.
-fn skip(buf: &mut [u8], size: u64)
-    requires { ⌜ length (now buf) ≡ 65537 ⌝ }
+// What is left of a tape is read and passed over.
+pub fn skip(buf: &mut [u8], size: u64)
+    requires { ⌜ length (now buf) ≡ recordLen ⌝ }
 {
     let mut left = size;
     while left > 0 {
@@ -88,8 +90,8 @@ fn skip(buf: &mut [u8], size: u64)
 // The calls of a tape.
 fn run_calls(table: &mut [u8], buf: &mut [u8], out: &mut [u8], size: u64, show: bool)
     requires { ⌜ Left (now table) ⌝ }
-    requires { ⌜ length (now buf) ≡ 65537 ⌝ }
-    requires { ⌜ length (now out) ≡ 10245 ⌝ }
+    requires { ⌜ length (now buf) ≡ recordLen ⌝ }
+    requires { ⌜ length (now out) ≡ outLen ⌝ }
     ensures { λ _. ⌜ Ran (now (table .entry)) (now (table .exit)) ⌝ }
 {
     let mut left = size;
@@ -103,24 +105,38 @@ fn run_calls(table: &mut [u8], buf: &mut [u8], out: &mut [u8], size: u64, show: 
     }
 }
 
-// A tape of at most `size` bytes from standard input, by way of a buffer for one record and one for its outputs. Whether it made a table.
-pub fn run_tape(table: &mut [u8], buf: &mut [u8], out: &mut [u8], size: u64, show: bool) -> bool
+// Whether a tape made a table; and how many of its bytes were not read, where its first record was refused.
+pub struct Fed {
+    pub made: bool,
+    pub left: u64,
+}
+
+// A tape of at most `size` bytes from standard input, by way of a buffer for one record and one for its outputs. It ends with the Done of a first record that is refused.
+pub fn run_tape(table: &mut [u8], buf: &mut [u8], out: &mut [u8], size: u64, show: bool) -> Fed
     requires { ⌜ length (now table) ≡ tableLen ⌝ }
-    requires { ⌜ length (now buf) ≡ 65537 ⌝ }
-    requires { ⌜ length (now out) ≡ 10245 ⌝ }
-    ensures { λ r. ⌜ (r ≡ true → Taped (now (table .entry)) (now (table .exit))) ⌝ }
-    ensures { λ r. ⌜ (r ≡ false → now (table .exit) ≡ now (table .entry)) ⌝ }
+    requires { ⌜ length (now buf) ≡ recordLen ⌝ }
+    requires { ⌜ length (now out) ≡ outLen ⌝ }
+    ensures { λ r. ⌜ (r .made ≡ true → Taped (now (table .entry)) (now (table .exit))) ⌝ }
+    ensures { λ r. ⌜ (r .made ≡ false → now (table .exit) ≡ now (table .entry)) ⌝ }
 {
     let n = next_record(buf, size);
     if n == 0 {
-        return false;
+        return Fed {
+            made: false,
+            left: size,
+        };
     }
     let number = first(table, buf, n, out, show);
     let left = size - n as u64;
     if number != 0 {
-        skip(buf, left);
-        return false;
+        return Fed {
+            made: false,
+            left: left,
+        };
     }
     run_calls(table, buf, out, left, show);
-    true
+    Fed {
+        made: true,
+        left: 0,
+    }
 }

@@ -20,14 +20,14 @@ fn promote(s: &mut [u8], peer: u64, d: u64, clock: u64)
     }
 }
 
-// A session ended unheard, of a msg1 with that digest if it came from one (`answered`).
-fn end(s: &mut [u8], peer: u64, epoch: u64, answered: bool, d: u64, clock: u64)
+// A session ended unheard, of a msg1 with that digest if it came from one (`has_setup`).
+fn end(s: &mut [u8], peer: u64, epoch: u64, has_setup: bool, d: u64, clock: u64)
     requires { ⌜ Kept (now s) ⌝ }
     ensures { λ r. ⌜ Kept (now (s .exit)) ⌝ }
 {
     let c = settings();
     if memory_count(s) < 32 {
-        ended(s, node(peer), epoch, answered, digest(d), clock, c);
+        ended(s, node(peer), epoch, has_setup, digest(d), clock, c);
     }
 }
 

@@ -10,6 +10,7 @@ use crate::change::change;
 use crate::show::ask;
 use crate::show::live;
 use crate::show::show;
+use gates_entry::layout::GATES_LEN;
 use gates_types::Liveness;
 use test_script::Step;
 use test_script::next_step;
@@ -42,7 +43,7 @@ fn play(s: &mut [u8], steps: &[u8])
 }
 
 fn run(steps: &[u8]) {
-    let mut s = [0u8; 20289];
+    let mut s = [0u8; GATES_LEN];
     play(&mut s, steps);
 }
 

@@ -57,9 +57,9 @@ fn find(s: &[u8], peer: u64)
 
 // Their epoch, how many, the end of the refusal, how many digests.
 fn silence(silent: bool, x: Silence) {
-    perhaps(x.known, x.epoch);
+    perhaps(x.has_epoch, x.epoch);
     perhaps(silent, x.count as u64);
-    perhaps(x.refusing, x.until);
+    perhaps(x.has_until, x.until);
     number(x.counted.len as u64);
 }
 
@@ -69,7 +69,7 @@ fn memory(s: &[u8], peer: u64)
 {
     let m = memory_of(s, node(peer));
     let x = m.silence;
-    perhaps(m.stamped, m.stamp);
+    perhaps(m.has_stamp, m.stamp);
     number(m.replays.len as u64);
     silence(m.silent, x);
 }
@@ -89,7 +89,7 @@ pub fn live(holder: u64, installed: u64, last: u64) -> Liveness {
         held: 0 < holder,
         heard: 1 < holder,
         installed: installed,
-        dated: 2 < holder,
+        has_last: 2 < holder,
         last: last,
     }
 }

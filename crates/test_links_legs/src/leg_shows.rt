@@ -1,13 +1,13 @@
 // The steps that show legs.
+use legs::at::answer_sent_at;
 use legs::at::answers_at;
 use legs::at::deadline_at;
 use legs::at::epoch_at;
+use legs::at::has_next_at;
+use legs::at::has_peer_at;
 use legs::at::lease_at;
-use legs::at::marked_at;
-use legs::at::named_at;
 use legs::at::next_at;
 use legs::at::replaces_at;
-use legs::at::timed_at;
 use legs::map::find_leg;
 use legs::map::leg_count;
 use legs::poll::answering;
@@ -41,7 +41,7 @@ fn times(s: &[u8], i: usize)
 {
     number(lease_at(s, i) as u64);
     number(deadline_at(s, i));
-    truth(timed_at(s, i));
+    truth(has_next_at(s, i));
     number(next_at(s, i));
     number(wake_at(s, i));
 }
@@ -51,10 +51,10 @@ fn kind(s: &[u8], i: usize)
     requires { ⌜ FitLegs (now s) ⌝ }
     requires { ⌜ i < legCount (now s) ⌝ }
 {
-    truth(named_at(s, i));
+    truth(has_peer_at(s, i));
     truth(answers_at(s, i));
     number(epoch_at(s, i));
-    truth(marked_at(s, i));
+    truth(answer_sent_at(s, i));
     truth(replaces_at(s, i));
 }
 

@@ -1,11 +1,11 @@
 // The steps of links. A pair is told by its byte.
 use links::close::release;
 use links::close::retire;
-use links::read::paths_full;
 use links::read::find_link;
 use links::read::in_use;
 use links::read::indexed_at;
 use links::read::link_count;
+use links::read::paths_full;
 use links::read::uses_at;
 use links::record::Dir;
 use links::record::Proven;

@@ -13,6 +13,8 @@ use crate::leg_shows::show_legs;
 use crate::leg_shows::yields;
 use crate::link_steps::change_links;
 use crate::link_steps::show_links;
+use legs_entry::layout::LEGS_LEN;
+use links_entry::layout::LINKS_LEN;
 use test_script::Step;
 use test_script::next_step;
 use test_script::show::end_line;
@@ -52,8 +54,8 @@ fn play(links: &mut [u8], legs: &mut [u8], steps: &[u8])
 }
 
 fn run(steps: &[u8]) {
-    let mut links = [0u8; 9505];
-    let mut legs = [0u8; 11233];
+    let mut links = [0u8; LINKS_LEN];
+    let mut legs = [0u8; LEGS_LEN];
     play(&mut links, &mut legs, steps);
 }
 

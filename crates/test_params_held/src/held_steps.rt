@@ -1,7 +1,7 @@
 // The steps of held. A pair is told by its byte.
 use held::at::current_is;
-use held::at::dated_at;
 use held::at::epoch_at;
+use held::at::has_last_at;
 use held::at::heard_at;
 use held::at::last_at;
 use held::heard::hear_at;
@@ -35,9 +35,9 @@ fn unheard(peer: u64, link: u64) -> Held
         epoch: 1,
         installed: 0,
         heard: false,
-        dated: false,
+        has_last: false,
         last: 0,
-        answered: false,
+        has_setup: false,
         setup: Digest([0u8; 32]),
         current: p,
     }
@@ -103,7 +103,7 @@ fn peer(s: &[u8], i: usize, b: u64)
     requires { ⌜ i < heldCount (now s) ⌝ }
 {
     truth(heard_at(s, i));
-    truth(dated_at(s, i));
+    truth(has_last_at(s, i));
     number(last_at(s, i));
     number(epoch_at(s, i));
     truth(current_is(s, i, pair(7, b)));

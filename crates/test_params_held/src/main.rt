@@ -10,6 +10,7 @@ use crate::held_steps::change_held;
 use crate::held_steps::show_held;
 use crate::plain::show_plain;
 use crate::times::show_times;
+use held::layout::HELD_LEN;
 use test_script::Step;
 use test_script::next_step;
 use test_script::show::end_line;
@@ -42,7 +43,7 @@ fn play(s: &mut [u8], steps: &[u8])
 }
 
 fn run(steps: &[u8]) {
-    let mut s = [0u8; 4353];
+    let mut s = [0u8; HELD_LEN];
     play(&mut s, steps);
 }
 

@@ -18,12 +18,12 @@ returns-2 c = let p = c .before .before .before .before .before .before .before 
 returns-3 : tie.Need-returns-3
 returns-3 c =
     let p = c .before .before .before .before .before .before .before .before .before .before .before .before .before .pre in
-    msg2-unnamed _ _ _ _ _ (p .1 .1) (p .0 .fit) _ (finds-at (c .before .before .before .before .before .before .before .before .before .find-leg .ensures) (c .before .before .before .before .before .before .before .i .given .1)) (sym (c .before .before .before .before .leg-answers .ensures) ∙ c .before .before .before .if1 .left) (off (c .before .leg-named .ensures) (c .if2 .taken))
+    msg2-unnamed _ _ _ _ _ (p .1 .1) (p .0 .fit) _ (finds-at (c .before .before .before .before .before .before .before .before .before .find-leg .ensures) (c .before .before .before .before .before .before .before .i .given .1)) (sym (c .before .before .before .before .leg-answers .ensures) ∙ c .before .before .before .if1 .left) (off (c .before .leg-has-peer .ensures) (c .if2 .taken))
 
 complete-requires : tie.Need-complete-requires
 complete-requires c κs =
     let p = c .before .before .before .before .before .before .before .before .before .before .before .before .before .before .before .pre in
-    (p .0, (finds-at (c .before .before .before .before .before .before .before .before .before .before .before .find-leg .ensures) (c .before .before .before .before .before .before .before .before .before .i .given .1), (sym (c .before .before .before .before .before .before .leg-answers .ensures) ∙ c .before .before .before .before .before .if1 .left, (on (c .before .before .before .leg-named .ensures) (c .before .before .if2 .left), (p .1 .0, p .1 .1)))))
+    (p .0, (finds-at (c .before .before .before .before .before .before .before .before .before .before .before .find-leg .ensures) (c .before .before .before .before .before .before .before .before .before .i .given .1), (sym (c .before .before .before .before .before .before .leg-answers .ensures) ∙ c .before .before .before .before .before .if1 .left, (on (c .before .before .before .leg-has-peer .ensures) (c .before .before .if2 .left), (p .1 .0, p .1 .1)))))
 
 pub msg2-spec : {M : Type 1} → statement M
 msg2-spec =

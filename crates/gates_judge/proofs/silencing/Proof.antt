@@ -9,19 +9,19 @@ use Rattle.gates_judge.proofs.silencing.Tie as tie
 returns : tie.Need-returns
 returns c =
     let g = c .before in
-    let d = g .before .before in
-    sym (silencing-is (d .args .s .now) (d .args .i) (d .pre .0) (d .pre .1) (d .args .epoch) (d .args .clock) ∙ rw (sym (g .get-flag .ensures) ∙ not-true (g .get-flag .result) (c .if1 .taken)))
+    let d = g .before in
+    sym (silencing-is (d .args .s .now) (d .args .i) (d .pre .0) (d .pre .1) (d .args .epoch) (d .args .clock) ∙ rw (sym (g .has-silence-at .ensures) ∙ not-true (g .has-silence-at .result) (c .if1 .taken)))
 
 returns-2 : tie.Need-returns-2
 returns-2 c =
     let r = c .before in
     let g = r .before .before in
-    let d = g .before .before in
+    let d = g .before in
     sym (
     silencing-is (d .args .s .now) (d .args .i) (d .pre .0) (d .pre .1) (d .args .epoch) (d .args .clock)
     ∙ rw (
-      sym (g .get-flag .ensures) ∙ not-false (g .get-flag .result) (r .before .if1 .left),
-      sym (r .get-flag2 .ensures) ∙ not-true (r .get-flag2 .result) (c .if2 .taken),
+      sym (g .has-silence-at .ensures) ∙ not-false (g .has-silence-at .result) (r .before .if1 .left),
+      sym (r .has-until-at .ensures) ∙ not-true (r .has-until-at .result) (c .if2 .taken),
     )
     )
 
@@ -30,14 +30,14 @@ returns-3 c =
     let u = c .before in
     let r = u .before .before in
     let g = r .before .before in
-    let d = g .before .before in
+    let d = g .before in
     sym (
     silencing-is (d .args .s .now) (d .args .i) (d .pre .0) (d .pre .1) (d .args .epoch) (d .args .clock)
     ∙ rw (
-      sym (g .get-flag .ensures) ∙ not-false (g .get-flag .result) (r .before .if1 .left),
-      sym (r .get-flag2 .ensures) ∙ not-false (r .get-flag2 .result) (u .before .if2 .left),
-      ← u .get-8 .ensures .0,
-      le-ltb (d .args .clock) (u .get-8 .result) (omega arith),
+      sym (g .has-silence-at .ensures) ∙ not-false (g .has-silence-at .result) (r .before .if1 .left),
+      sym (r .has-until-at .ensures) ∙ not-false (r .has-until-at .result) (u .before .if2 .left),
+      ← u .until-at .ensures,
+      le-ltb (d .args .clock) (u .until-at .result) (omega arith),
     )
     )
 
@@ -47,15 +47,15 @@ returns-4 c =
     let u = k .before .before in
     let r = u .before .before in
     let g = r .before .before in
-    let d = g .before .before in
+    let d = g .before in
     sym (
     silencing-is (d .args .s .now) (d .args .i) (d .pre .0) (d .pre .1) (d .args .epoch) (d .args .clock)
     ∙ rw (
-      sym (g .get-flag .ensures) ∙ not-false (g .get-flag .result) (r .before .if1 .left),
-      sym (r .get-flag2 .ensures) ∙ not-false (r .get-flag2 .result) (u .before .if2 .left),
-      ← u .get-8 .ensures .0,
-      lt-ltb (d .args .clock) (u .get-8 .result) (omega arith),
-      sym (k .get-flag3 .ensures) ∙ not-true (k .get-flag3 .result) (c .if4 .taken),
+      sym (g .has-silence-at .ensures) ∙ not-false (g .has-silence-at .result) (r .before .if1 .left),
+      sym (r .has-until-at .ensures) ∙ not-false (r .has-until-at .result) (u .before .if2 .left),
+      ← u .until-at .ensures,
+      lt-ltb (d .args .clock) (u .until-at .result) (omega arith),
+      sym (k .has-epoch-at .ensures) ∙ not-true (k .has-epoch-at .result) (c .if4 .taken),
     )
     )
 
@@ -65,16 +65,16 @@ returns-5 c =
     let u = k .before .before in
     let r = u .before .before in
     let g = r .before .before in
-    let d = g .before .before in
+    let d = g .before in
     sym (
     silencing-is (d .args .s .now) (d .args .i) (d .pre .0) (d .pre .1) (d .args .epoch) (d .args .clock)
     ∙ rw (
-      sym (g .get-flag .ensures) ∙ not-false (g .get-flag .result) (r .before .if1 .left),
-      sym (r .get-flag2 .ensures) ∙ not-false (r .get-flag2 .result) (u .before .if2 .left),
-      ← u .get-8 .ensures .0,
-      lt-ltb (d .args .clock) (u .get-8 .result) (omega arith),
-      sym (k .get-flag3 .ensures) ∙ not-false (k .get-flag3 .result) (c .before .if4 .left),
-      ← c .get-82 .ensures .0,
+      sym (g .has-silence-at .ensures) ∙ not-false (g .has-silence-at .result) (r .before .if1 .left),
+      sym (r .has-until-at .ensures) ∙ not-false (r .has-until-at .result) (u .before .if2 .left),
+      ← u .until-at .ensures,
+      lt-ltb (d .args .clock) (u .until-at .result) (omega arith),
+      sym (k .has-epoch-at .ensures) ∙ not-false (k .has-epoch-at .result) (c .before .if4 .left),
+      ← c .epoch-at .ensures,
     )
     )
 
@@ -82,20 +82,13 @@ pub silencing-spec : {M : Type 1} → statement M
 silencing-spec =
     tie.close
     (tie.spec
-    (λ c. search needs)
-    (λ c. search needs)
     (λ c κs. search needs)
     returns
-    (λ c. search needs)
-    (λ c. search needs)
-    (λ c. search needs)
     (λ c κs. search needs)
     returns-2
-    (λ c. search needs)
     (λ c κs. search needs)
     returns-3
     (λ c κs. search needs)
     returns-4
-    (λ c. search needs)
     (λ c κs. search needs)
     returns-5)

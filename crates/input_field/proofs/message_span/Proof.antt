@@ -1,6 +1,6 @@
 use borrow.Author.Needs.{needs}
 use lib.Dec.{lit≤}
-use Rattle.input_field.specs.Told.{told-none}
+use Rattle.input_field.specs.Parsed.{told-none}
 use Rattle.input_field.specs.Field.{message-short, message-big, message-cut, message-told}
 use Rattle.input_field.proofs.message_span.Statement.{statement}
 use Rattle.input_field.proofs.message_span.Tie as tie

@@ -2,7 +2,7 @@ use borrow.Author.Needs.{needs}
 use borrow.Author.Tests.{not-true, not-false}
 use native.Mathlib.Omega.{arith}
 use Rattle.node_addr.specs.View.{fit-blank-message}
-use Rattle.input_field.specs.Told.{told-none, told-no, told-room}
+use Rattle.input_field.specs.Parsed.{told-none, told-no, told-room}
 use Rattle.input_field.specs.Field.{message-copied, message-fits}
 use Rattle.input_field.proofs.read_message.Statement.{statement}
 use Rattle.input_field.proofs.read_message.Tie as tie

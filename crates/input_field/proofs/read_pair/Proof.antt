@@ -1,7 +1,7 @@
 use borrow.Author.Needs.{needs}
 use borrow.Author.Tests.{not-false}
 use Rattle.node_addr.specs.View.{fit-blank-pair}
-use Rattle.input_field.specs.Told.{told-none}
+use Rattle.input_field.specs.Parsed.{told-none}
 use Rattle.input_field.specs.Field.{spelt-none, pair-copied}
 use Rattle.input_field.proofs.read_pair.Statement.{statement}
 use Rattle.input_field.proofs.read_pair.Tie as tie

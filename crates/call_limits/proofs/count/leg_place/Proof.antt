@@ -10,7 +10,7 @@ use Rattle.call_limits.proofs.count.leg_place.Tie as tie
 returns : tie.Need-returns
 returns c =
     let s = c .before .before .before in
-    leg-unnamed (viewTable (s .args .t .now)) (s .pre .1) (off (c .before .leg-named .ensures) (c .if1 .taken))
+    leg-unnamed (viewTable (s .args .t .now)) (s .pre .1) (off (c .before .leg-has-peer .ensures) (c .if1 .taken))
 
 add-named-from : tie.Need-add-named-from
 add-named-from c = leg-after (c .before .before .before .before .pre .0) (c .before .before .before .before .pre .1)
@@ -21,12 +21,12 @@ named-from-requires c κs = let s = c .before .before .before .before in (s .pre
 returns-2 : tie.Need-returns-2
 returns-2 c =
     let s = c .before .before .before .before .before .before in
-    leg-again (viewTable (s .args .t .now)) (s .pre .1) (on (c .before .before .before .before .leg-named .ensures) (c .before .before .before .if1 .left)) (c .before .before .leg-peer .ensures) (c .before .named-from .ensures) (c .if2 .taken)
+    leg-again (viewTable (s .args .t .now)) (s .pre .1) (on (c .before .before .before .before .leg-has-peer .ensures) (c .before .before .before .if1 .left)) (c .before .before .leg-peer .ensures) (c .before .named-from .ensures) (c .if2 .taken)
 
 returns-3 : tie.Need-returns-3
 returns-3 c =
     let s = c .before .before .before .before .before .before in
-    leg-new (viewTable (s .args .t .now)) (s .pre .1) (on (c .before .before .before .before .leg-named .ensures) (c .before .before .before .if1 .left)) (c .before .before .leg-peer .ensures) (c .before .named-from .ensures) (c .if2 .left)
+    leg-new (viewTable (s .args .t .now)) (s .pre .1) (on (c .before .before .before .before .leg-has-peer .ensures) (c .before .before .before .if1 .left)) (c .before .before .leg-peer .ensures) (c .before .named-from .ensures) (c .if2 .left)
 
 pub leg-place-spec : {M : Type 1} → statement M
 leg-place-spec = tie.close (tie.spec (λ c κs. search needs) returns (λ c κs. search needs) add-named-from named-from-requires returns-2 returns-3)

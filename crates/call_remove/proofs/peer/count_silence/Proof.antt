@@ -11,8 +11,8 @@ returns c = part-heard _ _ (c .before .before .before .before .pre .0 .fit) (c .
 held-epoch-requires : tie.Need-held-epoch-requires
 held-epoch-requires c κs = (c .before .before .before .before .before .pre .0 .fit, c .before .before .before .before .before .pre .1 .0)
 
-held-answered-requires : tie.Need-held-answered-requires
-held-answered-requires c κs = (c .before .before .before .before .before .before .before .pre .0 .fit, c .before .before .before .before .before .before .before .pre .1 .0)
+held-has-setup-requires : tie.Need-held-has-setup-requires
+held-has-setup-requires c κs = (c .before .before .before .before .before .before .before .pre .0 .fit, c .before .before .before .before .before .before .before .pre .1 .0)
 
 held-setup-requires : tie.Need-held-setup-requires
 held-setup-requires c κs = (c .before .before .before .before .before .before .before .before .before .pre .0 .fit, c .before .before .before .before .before .before .before .before .before .pre .1 .0)
@@ -29,7 +29,7 @@ same-length-2 c = c .before .before .ended .ensures .fit .size ∙ sym (c .befor
 returns-2 : tie.Need-returns-2
 returns-2 c =
     let p = c .before .before .before .before in
-    part-unheard _ _ _ _ (p .before .before .before .before .before .before .before .before .before .before .before .before .pre .1 .1) (p .before .before .before .before .before .before .before .before .before .held-heard .ensures) (p .before .before .before .before .before .before .before .before .if1 .left) (p .before .before .before .before .before .before .held-epoch .ensures) (p .before .before .before .before .held-answered .ensures) (p .before .before .held-setup .ensures) (p .params-of .ensures) (c .before .before .ended .ensures)
+    part-unheard _ _ _ _ (p .before .before .before .before .before .before .before .before .before .before .before .before .pre .1 .1) (p .before .before .before .before .before .before .before .before .before .held-heard .ensures) (p .before .before .before .before .before .before .before .before .if1 .left) (p .before .before .before .before .before .before .held-epoch .ensures) (p .before .before .before .before .held-has-setup .ensures) (p .before .before .held-setup .ensures) (p .params-of .ensures) (c .before .before .ended .ensures)
 
 pub count-silence-spec : {M : Type 1} → statement M
-count-silence-spec = tie.close (tie.spec (λ c κs. search needs) (λ c. search needs) returns held-epoch-requires held-answered-requires held-setup-requires params-of-requires ended-requires same-length-2 returns-2)
+count-silence-spec = tie.close (tie.spec (λ c κs. search needs) (λ c. search needs) returns held-epoch-requires held-has-setup-requires held-setup-requires params-of-requires ended-requires same-length-2 returns-2)

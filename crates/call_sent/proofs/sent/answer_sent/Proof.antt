@@ -10,23 +10,23 @@ use Rattle.call_sent.proofs.sent.answer_sent.Statement.{statement}
 use Rattle.call_sent.proofs.sent.answer_sent.Tie as tie
 
 returns : tie.Need-returns
-returns c = let p = c .before .before .before .before .before .pre in sent-unnamed _ _ _ (p .1 .1 .1) _ (p .1 .0) (p .1 .1 .0) (p .0 .fit) (off (c .before .leg-named .ensures) (c .if1 .taken))
+returns c = let p = c .before .before .before .before .before .pre in sent-unnamed _ _ _ (p .1 .1 .1) _ (p .1 .0) (p .1 .1 .0) (p .0 .fit) (off (c .before .leg-has-peer .ensures) (c .if1 .taken))
 
 returns-2 : tie.Need-returns-2
 returns-2 c =
     let p = c .before .before .before .before .before .before .before .before .before .before .before .before .before .before .before .before .pre in
-    sent-marked _ _ _ (p .1 .1 .1) _ (p .1 .0) (p .1 .1 .0) (on (c .before .before .before .before .before .before .before .before .before .before .before .before .leg-named .ensures) (c .before .before .before .before .before .before .before .before .before .before .before .if1 .left)) (c .before .before .before .before .before .before .before .before .before .leg-peer .ensures) _ (finds-at (c .before .before .before .before .before .before .before .find-held .ensures) (c .before .before .before .before .before .k .given .1)) (c .before .before .mark-sent .ensures)
+    sent-marked _ _ _ (p .1 .1 .1) _ (p .1 .0) (p .1 .1 .0) (on (c .before .before .before .before .before .before .before .before .before .before .before .before .leg-has-peer .ensures) (c .before .before .before .before .before .before .before .before .before .before .before .if1 .left)) (c .before .before .before .before .before .before .before .before .before .leg-peer .ensures) _ (finds-at (c .before .before .before .before .before .before .before .find-held .ensures) (c .before .before .before .before .before .k .given .1)) (c .before .before .mark-sent .ensures)
 
 returns-3 : tie.Need-returns-3
 returns-3 c =
     let p = c .before .before .before .before .before .before .before .before .before .before .before .before .before .before .before .pre in
-    sent-linkless _ _ _ (p .1 .1 .1) _ (p .1 .0) (p .1 .1 .0) (on (c .before .before .before .before .before .before .before .before .before .before .before .leg-named .ensures) (c .before .before .before .before .before .before .before .before .before .before .if1 .left)) (c .before .before .before .before .before .before .before .before .leg-peer .ensures) (finds-none (c .before .before .before .before .before .before .find-held .ensures) (c .before .before .before .before .enum-told .given .1)) (p .0 .fit)
+    sent-linkless _ _ _ (p .1 .1 .1) _ (p .1 .0) (p .1 .1 .0) (on (c .before .before .before .before .before .before .before .before .before .before .before .leg-has-peer .ensures) (c .before .before .before .before .before .before .before .before .before .before .if1 .left)) (c .before .before .before .before .before .before .before .before .leg-peer .ensures) (finds-none (c .before .before .before .before .before .before .find-held .ensures) (c .before .before .before .before .enum-told .given .1)) (p .0 .fit)
     (finds-none (c .before .before .find-link .ensures) (c .enum-told2 .given .1))
 
 promote-requires : tie.Need-promote-requires
 promote-requires c κs =
     let p = c .before .before .before .before .before .before .before .before .before .before .before .before .before .before .before .before .before .before .pre in
-    let f = on (c .before .before .before .before .before .before .before .before .before .before .before .before .before .before .leg-named .ensures) (c .before .before .before .before .before .before .before .before .before .before .before .before .before .if1 .left) in
+    let f = on (c .before .before .before .before .before .before .before .before .before .before .before .before .before .before .leg-has-peer .ensures) (c .before .before .before .before .before .before .before .before .before .before .before .before .before .if1 .left) in
     let l = finds-at (c .before .before .before .before .before .find-link .ensures) (c .before .before .before .j .given .1) in
     let e = sent-promotes _ _ _ (p .1 .1 .1) _ (p .1 .0) (p .1 .1 .0) f (c .before .before .before .before .before .before .before .before .before .before .before .leg-peer .ensures) (finds-none (c .before .before .before .before .before .before .before .before .before .find-held .ensures) (c .before .before .before .before .before .before .before .enum-told .given .1)) _ l in
     (p .0, (place-within _ _ _ (p .1 .0), (leg-own _ _ _ (p .1 .0), (f, (place-within _ _ _ l, space-is (p .1 .1 .1) e)))))
@@ -35,7 +35,7 @@ returns-4 : tie.Need-returns-4
 returns-4 c =
     let p = c .before .before .before .before .before .before .before .before .before .before .before .before .before .before .before .before .before .before .before .before .before .before .before .pre in
     did-is (c .before .before .before .before .promote .ensures) (sym (
-    sent-promotes _ _ _ (p .1 .1 .1) _ (p .1 .0) (p .1 .1 .0) (on (c .before .before .before .before .before .before .before .before .before .before .before .before .before .before .before .before .before .before .before .leg-named .ensures) (c .before .before .before .before .before .before .before .before .before .before .before .before .before .before .before .before .before .before .if1 .left)) (c .before .before .before .before .before .before .before .before .before .before .before .before .before .before .before .before .leg-peer .ensures) (finds-none (c .before .before .before .before .before .before .before .before .before .before .before .before .before .before .find-held .ensures) (c .before .before .before .before .before .before .before .before .before .before .before .before .enum-told .given .1)) _
+    sent-promotes _ _ _ (p .1 .1 .1) _ (p .1 .0) (p .1 .1 .0) (on (c .before .before .before .before .before .before .before .before .before .before .before .before .before .before .before .before .before .before .before .leg-has-peer .ensures) (c .before .before .before .before .before .before .before .before .before .before .before .before .before .before .before .before .before .before .if1 .left)) (c .before .before .before .before .before .before .before .before .before .before .before .before .before .before .before .before .leg-peer .ensures) (finds-none (c .before .before .before .before .before .before .before .before .before .before .before .before .before .before .find-held .ensures) (c .before .before .before .before .before .before .before .before .before .before .before .before .enum-told .given .1)) _
     (finds-at (c .before .before .before .before .before .before .before .before .before .before .find-link .ensures) (c .before .before .before .before .before .before .before .before .j .given .1))
     ))
 

@@ -10,14 +10,14 @@ returns : tie.Need-returns
 returns c =
     let g = c .before in
     let d = g .before .before in
-    still-unstamped (d .args .s .now) (d .args .i) (d .pre .0) (d .pre .1) (sym (g .get-flag .ensures) ∙ not-true (g .get-flag .result) (c .if1 .taken))
+    still-unstamped (d .args .s .now) (d .args .i) (d .pre .0) (d .pre .1) (sym (g .has-stamp-at .ensures) ∙ not-true (g .has-stamp-at .result) (c .if1 .taken))
 
 returns-2 : tie.Need-returns-2
 returns-2 c =
     let f = c .before .before in
     let g = f .before in
     let d = g .before .before in
-    still-replayed (d .args .s .now) (d .args .i) (d .pre .0) (d .pre .1) (sym (g .get-flag .ensures) ∙ not-false (g .get-flag .result) (f .if1 .left)) (c .if2 .taken)
+    still-replayed (d .args .s .now) (d .args .i) (d .pre .0) (d .pre .1) (sym (g .has-stamp-at .ensures) ∙ not-false (g .has-stamp-at .result) (f .if1 .left)) (c .if2 .taken)
 
 returns-3 : tie.Need-returns-3
 returns-3 c =
@@ -25,7 +25,7 @@ returns-3 c =
     let f = h .before .before in
     let g = f .before in
     let d = g .before .before in
-    ap not (c .get-flag2 .ensures) ∙ still-silent (d .args .s .now) (d .args .i) (d .pre .0) (d .pre .1) (sym (g .get-flag .ensures) ∙ not-false (g .get-flag .result) (f .if1 .left)) (h .if2 .left)
+    ap not (c .has-silence-at .ensures) ∙ still-silent (d .args .s .now) (d .args .i) (d .pre .0) (d .pre .1) (sym (g .has-stamp-at .ensures) ∙ not-false (g .has-stamp-at .result) (f .if1 .left)) (h .if2 .left)
 
 pub is-still-spec : {M : Type 1} → statement M
 is-still-spec =

@@ -14,9 +14,9 @@ returns c =
     let d = c .before .before .before .before .before .before .before in
     memory-loaded (d .args .s .now) (d .args .i) (d .pre .0) (d .pre .1) (record {
       peer = c .before .before .before .before .before .load-node .ensures;
-      stamped = c .before .before .before .before .get-flag .ensures;
+      «has_stamp» = c .before .before .before .before .get-flag .ensures;
       stamp = c .before .before .before .get-be .ensures .0;
-      silent = c .before .before .get-flag2 .ensures;
+      «has_silence» = c .before .before .get-flag2 .ensures;
       fit = c .before .load-silent .ensures .0;
       blank = c .before .load-silent .ensures .1 .0;
       silence = c .before .load-silent .ensures .1 .1;

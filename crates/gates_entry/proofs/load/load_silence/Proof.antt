@@ -10,11 +10,11 @@ returns : tie.Need-returns
 returns c =
     let d = c .before .before .before .before .before .before .before .before in
     silence-loaded (d .args .s .now) (d .args .at) (d .pre .1) (record {
-      known = c .before .before .before .before .before .before .get-flag .ensures;
+      «has_epoch» = c .before .before .before .before .before .before .get-flag .ensures;
       epoch = c .before .before .before .before .before .get-be .ensures .0;
       count = c .before .before .before .before .get-be2 .ensures .0;
       last = c .before .before .before .get-be3 .ensures .0;
-      refusing = c .before .before .get-flag2 .ensures;
+      «has_until» = c .before .before .get-flag2 .ensures;
       until = c .before .get-be4 .ensures .0;
       wide = record { epoch = search needs; count = search needs; last = search needs; until = search needs };
       fits = c .load-digests .ensures .0;

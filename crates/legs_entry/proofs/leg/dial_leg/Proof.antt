@@ -16,7 +16,7 @@ returns c = (
     msg2 = rw (c .before .blank-message .ensures) fit-blank-message;
     untimed = c .before .before .first-resend .ensures .blank;
     unnamed = λ e. cc;
-    dial = λ e. record { marked = refl; replaces = refl; epoch = refl; digest = refl; len2 = rw (c .before .blank-message .ensures); msg2 = rw (c .before .blank-message .ensures) };
+    dial = λ e. record { «answer_sent» = refl; replaces = refl; epoch = refl; digest = refl; len2 = rw (c .before .blank-message .ensures); msg2 = rw (c .before .blank-message .ensures) };
   },
   rw (c .before .before .first-resend .ensures .is, c .deadline .ensures),
 )

@@ -20,9 +20,6 @@ first-requires c κs = (c .before .before .before .before .before .before .befor
 sub-left : tie.Need-sub-left
 sub-left c = c .before .before .before .before .before .before .before .before .before .before .before .next-record .ensures .tape
 
-skip-requires : tie.Need-skip-requires
-skip-requires c κs = c .before .before .before .before .before .before .before .before .before .before .before .before .before .next-record .kept .0 ∙ c .before .before .before .before .before .before .before .before .before .before .before .before .before .before .before .before .before .before .pre .1 .0
-
 same-length-2 : tie.Need-same-length-2
 same-length-2 c = c .before .before .before .before .before .before .before .before .before .first .kept .0
 

@@ -1,8 +1,0 @@
--- `legs::stored::proven_path` meets its contract.
-use Rattle.links_entry.specs.Here.{pathing}
-use Rattle.legs.proofs.stored.proven_path.Statement.{statement}
-use Rattle.legs.proofs.stored.proven_path.Tie as tie
-
-pub proven-path-spec : {M : Type 1} → statement M
-proven-path-spec =
-    tie.close (tie.spec (λ c. search pathing) (λ c. search pathing) (λ c κs. search pathing) (λ c. search pathing) (λ c κs. search pathing) (λ c. search pathing))
