@@ -176,6 +176,9 @@ module _ {s : Bytes} {i : ℕ} (f : FitLinks s) (h : i < linkCount s) where
   pub path-count-is : {n : ℕ} → n ≡ getD s (i * linkWidth + atLinkPathCount) 0 → n ≡ length (getD (viewLinks s) i noLink .paths)
   path-count-is e = e ∙ sym paths-count ∙ sym paths-length
 
+  pub paths-few : {n : ℕ} → n ≡ length (getD (viewLinks s) i noLink .paths) → n ≤ pathCap
+  paths-few e = omega (arith, e, paths-length, paths-fit f h .kept .small)
+
   pub path-lent : {j : ℕ} → j < length (getD (viewLinks s) i noLink .paths) → j < pathCount (take (span i) (drop (i * linkWidth + atPaths) s))
   path-lent {j} l = rw (span-is i) (subst (λ (n : ℕ). j < n) paths-length l)
 

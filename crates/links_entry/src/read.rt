@@ -28,7 +28,7 @@ use node_addr::place::eq_wire_pair;
 use node_addr::place::load_pair;
 ghost use mathlib.Core.Path.{_≡_};
 ghost use mathlib.Core.Bool.{_||_};
-ghost use Prim.Native.Nat.{_<_};
+ghost use Prim.Native.Nat.{_≤_, _<_};
 ghost use lib.ListN.{length, drop, getD};
 ghost use Rattle.rules.specs.Base.{any, empty};
 ghost use Rattle.rules.specs.Data.{samePair};
@@ -36,6 +36,7 @@ ghost use Rattle.rules.specs.Links.{numbered, isLeg, provenAt, uses, inUse, ind
 ghost use Rattle.lib_laws.specs.Scan.{scan};
 ghost use Rattle.node_addr.specs.View.{FitPair, viewPair, Finds};
 ghost use Rattle.node_addr.specs.Place.{pairHere, PairIn};
+ghost use Rattle.links_entry.specs.Layout.{pathCap};
 ghost use Rattle.links_entry.specs.View.{outward, FitLinks, viewLinks, linkCount, noLink, noPath, dirOf, viewDir, viewLink, FitRec, full, crowding};
 
 // How many there are.
@@ -138,6 +139,7 @@ pub fn path_count_at(s: &[u8], i: usize) -> usize
     requires { ⌜ FitLinks (now s) ⌝ }
     requires { ⌜ i < linkCount (now s) ⌝ }
     ensures { λ r. ⌜ r ≡ length (getD (viewLinks (now (s .entry))) i noLink .paths) ⌝ }
+    ensures { λ r. ⌜ r ≤ pathCap ⌝ }
 {
     get_byte(s, i * LINK_WIDTH + LINK_PATH_COUNT) as usize
 }

@@ -9,14 +9,14 @@ use Rattle.gates_judge.proofs.silencing.Tie as tie
 returns : tie.Need-returns
 returns c =
     let g = c .before in
-    let d = g .before in
+    let d = g .before .before in
     sym (silencing-is (d .args .s .now) (d .args .i) (d .pre .0) (d .pre .1) (d .args .epoch) (d .args .clock) ∙ rw (sym (g .has-silence-at .ensures) ∙ not-true (g .has-silence-at .result) (c .if1 .taken)))
 
 returns-2 : tie.Need-returns-2
 returns-2 c =
     let r = c .before in
     let g = r .before .before in
-    let d = g .before in
+    let d = g .before .before in
     sym (
     silencing-is (d .args .s .now) (d .args .i) (d .pre .0) (d .pre .1) (d .args .epoch) (d .args .clock)
     ∙ rw (
@@ -30,7 +30,7 @@ returns-3 c =
     let u = c .before in
     let r = u .before .before in
     let g = r .before .before in
-    let d = g .before in
+    let d = g .before .before in
     sym (
     silencing-is (d .args .s .now) (d .args .i) (d .pre .0) (d .pre .1) (d .args .epoch) (d .args .clock)
     ∙ rw (
@@ -47,7 +47,7 @@ returns-4 c =
     let u = k .before .before in
     let r = u .before .before in
     let g = r .before .before in
-    let d = g .before in
+    let d = g .before .before in
     sym (
     silencing-is (d .args .s .now) (d .args .i) (d .pre .0) (d .pre .1) (d .args .epoch) (d .args .clock)
     ∙ rw (
@@ -65,7 +65,7 @@ returns-5 c =
     let u = k .before .before in
     let r = u .before .before in
     let g = r .before .before in
-    let d = g .before in
+    let d = g .before .before in
     sym (
     silencing-is (d .args .s .now) (d .args .i) (d .pre .0) (d .pre .1) (d .args .epoch) (d .args .clock)
     ∙ rw (

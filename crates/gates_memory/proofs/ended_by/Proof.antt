@@ -23,7 +23,7 @@ returns c =
           (viewParams (a .c))
           (a .clock)
           (some (a .epoch))
-          (optional (a .«has_setup») (a .setup .0))
+          (optional (a .has-setup) (a .setup .0))
           (viewMemory (a .m))
           (viewSilence (s .counting .result))
           (viewSilence (c .ended-in .result))

@@ -10,7 +10,7 @@ returns : tie.Need-returns
 returns c =
     let a = c .before .before .args in
     let n = c .new-silence .ensures in
-    (n .0, (n .1 .0 ∙ count-quiet (viewParams (a .c)) (a .clock) (a .epoch) (a .s) (a .«has_silence») (c .before .if1 .taken), omega arith))
+    (n .0, (n .1 .0 ∙ count-quiet (viewParams (a .c)) (a .clock) (a .epoch) (a .s) (a .has-silence) (c .before .if1 .taken), omega arith))
 
 returns-2 : tie.Need-returns-2
 returns-2 c =
@@ -18,7 +18,7 @@ returns-2 c =
     let a = d .before .before .args in
     let n = c .new-silence2 .ensures in (
       n .0,
-      (n .1 .0 ∙ count-expired (viewParams (a .c)) (a .clock) (a .epoch) (a .s) (a .«has_silence») (d .before .if1 .left) (sym (d .expired .ensures) ∙ c .before .if2 .taken), omega arith),
+      (n .1 .0 ∙ count-expired (viewParams (a .c)) (a .clock) (a .epoch) (a .s) (a .has-silence) (d .before .if1 .left) (sym (d .expired .ensures) ∙ c .before .if2 .taken), omega arith),
     )
 
 returns-3 : tie.Need-returns-3
@@ -28,7 +28,7 @@ returns-3 c =
     let a = d .before .before .args in
     let f = d .before .before .pre in (
       record { wide = record { epoch = search needs; count = f .wide .count; last = f .wide .last; until = f .wide .until }; unknown = λ q. cc; lifted = f .lifted; counted = f .counted },
-      (count-unknown (viewParams (a .c)) (a .clock) (a .epoch) (a .s) (a .«has_silence») (d .before .if1 .left) (sym (d .expired .ensures) ∙ e .if2 .left) (c .if3 .taken), omega arith),
+      (count-unknown (viewParams (a .c)) (a .clock) (a .epoch) (a .s) (a .has-silence) (d .before .if1 .left) (sym (d .expired .ensures) ∙ e .if2 .left) (c .if3 .taken), omega arith),
     )
 
 returns-4 : tie.Need-returns-4
@@ -40,7 +40,7 @@ returns-4 c =
     let n = c .new-silence3 .ensures in (
       n .0,
       (
-        n .1 .0 ∙ count-other (viewParams (a .c)) (a .clock) (a .epoch) (a .s) (a .«has_silence») (d .before .if1 .left) (sym (d .expired .ensures) ∙ e .if2 .left) (g .if3 .left) (c .before .if4 .taken),
+        n .1 .0 ∙ count-other (viewParams (a .c)) (a .clock) (a .epoch) (a .s) (a .has-silence) (d .before .if1 .left) (sym (d .expired .ensures) ∙ e .if2 .left) (g .if3 .left) (c .before .if4 .taken),
         omega arith,
       ),
     )
@@ -53,7 +53,7 @@ returns-5 c =
     let a = d .before .before .args in (
       d .before .before .pre,
       (
-        count-same (viewParams (a .c)) (a .clock) (a .epoch) (a .s) (a .«has_silence») (d .before .if1 .left) (sym (d .expired .ensures) ∙ e .if2 .left) (g .if3 .left) (c .if4 .left),
+        count-same (viewParams (a .c)) (a .clock) (a .epoch) (a .s) (a .has-silence) (d .before .if1 .left) (sym (d .expired .ensures) ∙ e .if2 .left) (g .if3 .left) (c .if4 .left),
         omega arith,
       ),
     )

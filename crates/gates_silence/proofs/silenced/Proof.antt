@@ -17,7 +17,7 @@ returns c =
       silenced-low
           (viewParams (a .c))
           (a .clock)
-          (optional (a .«has_setup») (a .setup .0))
+          (optional (a .has-setup) (a .setup .0))
           (viewSilence (a .s))
           (o .one-more .result)
           (viewDigests (t .counted-too .result))
@@ -37,7 +37,7 @@ returns-2 c =
       silenced-high
           (viewParams (a .c))
           (a .clock)
-          (optional (a .«has_setup») (a .setup .0))
+          (optional (a .has-setup) (a .setup .0))
           (viewSilence (a .s))
           (o .one-more .result)
           (viewDigests (t .counted-too .result))

@@ -24,8 +24,8 @@ store-memory-requires c κs =
     let d = x .before .before .before .before in
     let a = d .args in
     let g = viewGates (a .s .now) in
-    let e = x .ended-by .ensures .1 ∙ ap (ended (viewParams (a .c)) (a .clock) (some (a .epoch)) (optional (a .«has_setup») (a .setup .0))) (x .before .memory-of .ensures .1) in
-    (d .pre .0, (d .pre .1 .0, (x .ended-by .ensures .0, room-for (viewMemory (x .ended-by .result)) (ended (viewParams (a .c)) (a .clock) (some (a .epoch)) (optional (a .«has_setup») (a .setup .0)) (memory (a .peer .0) g)) e (ended-peer (viewParams (a .c)) (a .clock) (some (a .epoch)) (optional (a .«has_setup») (a .setup .0)) (memory (a .peer .0) g) ∙ memory-peer (a .peer .0) g) (d .pre .1 .1 .1 .1))))
+    let e = x .ended-by .ensures .1 ∙ ap (ended (viewParams (a .c)) (a .clock) (some (a .epoch)) (optional (a .has-setup) (a .setup .0))) (x .before .memory-of .ensures .1) in
+    (d .pre .0, (d .pre .1 .0, (x .ended-by .ensures .0, room-for (viewMemory (x .ended-by .result)) (ended (viewParams (a .c)) (a .clock) (some (a .epoch)) (optional (a .has-setup) (a .setup .0)) (memory (a .peer .0) g)) e (ended-peer (viewParams (a .c)) (a .clock) (some (a .epoch)) (optional (a .has-setup) (a .setup .0)) (memory (a .peer .0) g) ∙ memory-peer (a .peer .0) g) (d .pre .1 .1 .1 .1))))
 
 returns : tie.Need-returns
 returns c =
@@ -33,7 +33,7 @@ returns c =
     let a = x .before .before .before .before .args in
     let g = viewGates (a .s .now) in
     let r = c .before .before .store-memory .ensures in
-    (r .0, r .1 ∙ ap (λ (m : Memory). store m g) (x .ended-by .ensures .1 ∙ ap (ended (viewParams (a .c)) (a .clock) (some (a .epoch)) (optional (a .«has_setup») (a .setup .0))) (x .before .memory-of .ensures .1)))
+    (r .0, r .1 ∙ ap (λ (m : Memory). store m g) (x .ended-by .ensures .1 ∙ ap (ended (viewParams (a .c)) (a .clock) (some (a .epoch)) (optional (a .has-setup) (a .setup .0))) (x .before .memory-of .ensures .1)))
 
 pub ended-spec : {M : Type 1} → statement M
 ended-spec = tie.close (tie.spec (λ c κs. search needs) ended-by-requires store-memory-requires (λ c. search needs) returns)
