@@ -1,4 +1,4 @@
-/* The settle table: which peer is held on which link.
+/* The settle table: which peer is held on which link. `rt staticlib settle` makes the library, target/staticlib/libsettle.a.
  *
  * The library keeps nothing of its own: no memory but what is lent, no clock, no sockets. The driver lends a table, a record and a
  * buffer for the length of one call, and does what the outputs say: it sends, dials and closes connections, and gives leases (receive
@@ -38,7 +38,8 @@ enum settle_number {
     SETTLE_PATHS = 7     /* the link has four paths */
 };
 
-/* number: a refusal, or SETTLE_OK; len: how many bytes of the buffer are outputs. The bytes beyond keep what they held. */
+/* What a call answers, `Answer` in the library. number: a refusal, or SETTLE_OK; len: how many bytes of the buffer are outputs. The bytes
+ * beyond keep what they held. */
 typedef struct {
     uint8_t number;
     size_t len;
