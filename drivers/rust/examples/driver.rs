@@ -27,8 +27,9 @@ fn main() -> Result<(), Refusal> {
             act(output);
         }
     }
-    let refused = table.call(0, &Call::Poll, &mut []).err();
-    println!("without a buffer: {}", refused.expect("a buffer is needed"));
+    if let Err(refused) = table.call(0, &Call::Poll, &mut []) {
+        println!("without a buffer: {refused}");
+    }
     Ok(())
 }
 
@@ -41,6 +42,7 @@ fn act(output: Output<'_>) {
             println!("  retire link {link}");
             closes.for_each(|p| println!("    close {p:?}"));
         }
+        Output::Unknown { record } => println!("  not known, so not done: {record:02x?}"),
         other => println!("  {other:?}"),
     }
 }

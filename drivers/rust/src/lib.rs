@@ -28,12 +28,10 @@ pub use record::{Call, Hello, Proven, Settings, Why};
 
 use std::fmt;
 
-/// Bytes of a table.
-pub const SIZE: usize = 45_478;
-
 /// Bytes of buffer that are enough for every call; fewer are refused.
 pub const OUT: usize = 10_240;
 
+/// What the library answers to a call: the refusal's number, 0 for none, and how many bytes of the buffer are outputs.
 #[repr(C)]
 struct Answer {
     number: u8,
@@ -70,6 +68,7 @@ impl fmt::Debug for Pair<'_> {
 }
 
 /// Why a call or a new was refused. It has then changed nothing, and its lease remains the caller's.
+#[non_exhaustive]
 #[derive(Clone, Copy, Debug, PartialEq, Eq)]
 pub enum Refusal {
     Settings,
@@ -79,26 +78,37 @@ pub enum Refusal {
     Links,
     Names,
     Paths,
+    /// A number without a name here: the linked library is another version.
+    Other(u8),
 }
 
 impl Refusal {
-    const ALL: [Refusal; 7] = [
-        Refusal::Settings,
-        Refusal::Buffer,
-        Refusal::Record,
-        Refusal::Numbers,
-        Refusal::Links,
-        Refusal::Names,
-        Refusal::Paths,
-    ];
-
-    /// The number of document 01, 1 to 7.
+    /// The number of docs/RECORDS.md.
     pub fn number(self) -> u8 {
-        self as u8 + 1
+        match self {
+            Refusal::Settings => 1,
+            Refusal::Buffer => 2,
+            Refusal::Record => 3,
+            Refusal::Numbers => 4,
+            Refusal::Links => 5,
+            Refusal::Names => 6,
+            Refusal::Paths => 7,
+            Refusal::Other(number) => number,
+        }
     }
 
+    /// The refusal of a number that is not 0.
     fn of(number: u8) -> Refusal {
-        Refusal::ALL[usize::from(number) - 1]
+        match number {
+            1 => Refusal::Settings,
+            2 => Refusal::Buffer,
+            3 => Refusal::Record,
+            4 => Refusal::Numbers,
+            5 => Refusal::Links,
+            6 => Refusal::Names,
+            7 => Refusal::Paths,
+            _ => Refusal::Other(number),
+        }
     }
 }
 
@@ -112,6 +122,7 @@ impl fmt::Display for Refusal {
             Refusal::Links => "32 links are live",
             Refusal::Names => "32 peers have a place, and this one has none",
             Refusal::Paths => "the link has four paths",
+            Refusal::Other(number) => return write!(f, "refused by number {number}, which has no name here"),
         })
     }
 }
@@ -132,10 +143,10 @@ impl Table {
     /// The same from the bytes of a record of new.
     pub fn from_record(record: &[u8]) -> Result<Table, Refusal> {
         // SAFETY: no argument.
-        assert_eq!(unsafe { settle_table_size() }, SIZE, "the linked library is another version");
-        let mut bytes = vec![0; SIZE].into_boxed_slice();
-        // SAFETY: two slices that do not overlap, lent for the call; the table has its size.
-        let number = unsafe { settle_new(bytes.as_mut_ptr(), SIZE, record.as_ptr(), record.len()) };
+        let size = unsafe { settle_table_size() };
+        let mut bytes = vec![0; size].into_boxed_slice();
+        // SAFETY: two slices that do not overlap, lent for the call; the table has the size that the library asks for.
+        let number = unsafe { settle_new(bytes.as_mut_ptr(), size, record.as_ptr(), record.len()) };
         if number != 0 {
             return Err(Refusal::of(number));
         }
@@ -160,11 +171,27 @@ impl Table {
         if a.number != 0 {
             return Err(Refusal::of(a.number));
         }
+        // The contract keeps len within the buffer; a library that broke it has written beyond, and this panics.
         Ok(Outputs::of(&out[..a.len]))
     }
 
     /// The table's bytes: equal tables have equal bytes.
     pub fn bytes(&self) -> &[u8] {
         &self.bytes
+    }
+}
+
+#[cfg(test)]
+mod tests {
+    use super::Refusal;
+
+    #[test]
+    fn each_number_is_kept() {
+        for number in 1..=u8::MAX {
+            let refusal = Refusal::of(number);
+            assert_eq!(refusal.number(), number);
+            assert_eq!(refusal == Refusal::Other(number), number > 7);
+        }
+        assert_eq!(Refusal::of(8).to_string(), "refused by number 8, which has no name here");
     }
 }

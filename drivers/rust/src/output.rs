@@ -43,6 +43,7 @@ pub enum Reason {
 }
 
 /// What the driver is to do.
+#[non_exhaustive]
 #[derive(Clone, Copy, Debug, PartialEq, Eq)]
 pub enum Output<'a> {
     Opened { link: u64 },
@@ -59,9 +60,12 @@ pub enum Output<'a> {
     Retry { peer: Peer },
     Reject { asker: Option<(Peer, Source)>, why: Reason },
     Wake { at: Option<u64> },
+    /// A record that reads as none of these, whole: the linked library is another version. What it asks for stays undone.
+    Unknown { record: &'a [u8] },
 }
 
 /// The outputs of a call, in the order in which they are to be done.
+#[must_use = "outputs are to be done: with a Free that is dropped a lease is lost"]
 #[derive(Clone, Debug)]
 pub struct Outputs<'a> {
     rest: &'a [u8],
@@ -92,11 +96,9 @@ impl<'a> Iterator for Outputs<'a> {
         if self.rest.is_empty() {
             return None;
         }
-        let mut head = Fields(self.rest);
-        let size = usize::from(u16::from_be_bytes(head.array()));
-        let (record, rest) = self.rest.split_at(2 + size);
+        let (record, rest) = first(self.rest);
         self.rest = rest;
-        Some(Fields(&record[4..]).output(record[3]))
+        Some(Fields(record).output().unwrap_or(Output::Unknown { record }))
     }
 }
 
@@ -106,99 +108,116 @@ impl<'a> Iterator for Pairs<'a> {
     fn next(&mut self) -> Option<Pair<'a>> {
         self.left = self.left.checked_sub(1)?;
         let mut fields = Fields(self.rest);
-        let pair = fields.pair();
+        let pair = fields.pair()?;
         self.rest = fields.0;
         Some(pair)
     }
 }
 
-/// The fields of an output. What the library wrote is well formed, so a field is there.
+/// The first record and the rest; all are one if its length is not that of a record here.
+fn first(written: &[u8]) -> (&[u8], &[u8]) {
+    let size = match written {
+        [a, b, ..] => 2 + usize::from(u16::from_be_bytes([*a, *b])),
+        _ => written.len(),
+    };
+    written.split_at_checked(size).unwrap_or((written, &[]))
+}
+
+/// What is left to read of a record. A reader gives nothing if its field is not there.
 struct Fields<'a>(&'a [u8]);
 
 impl<'a> Fields<'a> {
-    fn run(&mut self, n: usize) -> &'a [u8] {
-        let (run, rest) = self.0.split_at(n);
+    fn run(&mut self, n: usize) -> Option<&'a [u8]> {
+        let (run, rest) = self.0.split_at_checked(n)?;
         self.0 = rest;
-        run
+        Some(run)
     }
 
-    fn array<const N: usize>(&mut self) -> [u8; N] {
-        self.run(N).try_into().expect("a run of its length")
+    fn array<const N: usize>(&mut self) -> Option<[u8; N]> {
+        let (array, rest) = self.0.split_first_chunk()?;
+        self.0 = rest;
+        Some(*array)
     }
 
-    fn byte(&mut self) -> u8 {
-        self.run(1)[0]
+    fn byte(&mut self) -> Option<u8> {
+        self.array().map(u8::from_be_bytes)
     }
 
-    fn flag(&mut self) -> bool {
-        self.byte() == 1
+    fn link(&mut self) -> Option<u64> {
+        self.array().map(u64::from_be_bytes)
     }
 
-    fn link(&mut self) -> u64 {
-        u64::from_be_bytes(self.array())
+    fn lease(&mut self) -> Option<u32> {
+        self.array().map(u32::from_be_bytes)
     }
 
-    fn lease(&mut self) -> u32 {
-        u32::from_be_bytes(self.array())
+    fn peer(&mut self) -> Option<Peer> {
+        self.array().map(Peer)
     }
 
-    fn peer(&mut self) -> Peer {
-        Peer(self.array())
+    fn pair(&mut self) -> Option<Pair<'a>> {
+        let transport = self.array().map(u32::from_be_bytes)?;
+        let n = self.byte()?;
+        Some(Pair { transport, addr: self.run(n.into())? })
     }
 
-    fn pair(&mut self) -> Pair<'a> {
-        let transport = self.lease();
-        let n = usize::from(self.byte());
-        Pair { transport, addr: self.run(n) }
+    fn message(&mut self) -> Option<&'a [u8]> {
+        let n = self.array().map(u16::from_be_bytes)?;
+        self.run(n.into())
     }
 
-    fn message(&mut self) -> &'a [u8] {
-        let n = usize::from(u16::from_be_bytes(self.array()));
-        self.run(n)
+    /// A list, walked through once to see that its pairs are there.
+    fn pairs(&mut self) -> Option<Pairs<'a>> {
+        let pairs = Pairs { left: self.byte()?, rest: self.0 };
+        (0..pairs.left).try_for_each(|_| self.pair().map(drop))?;
+        Some(pairs)
     }
 
-    fn pairs(&mut self) -> Pairs<'a> {
-        Pairs { left: self.byte(), rest: self.0 }
+    fn of<T: Copy>(&mut self, cases: &[T]) -> Option<T> {
+        cases.get(usize::from(self.byte()?)).copied()
     }
 
-    fn of<T: Copy>(&mut self, cases: &[T]) -> T {
-        cases[usize::from(self.byte())]
+    fn flag(&mut self) -> Option<bool> {
+        self.of(&[false, true])
     }
 
-    fn output(&mut self, kind: u8) -> Output<'a> {
-        match kind {
-            1 => Output::Opened { link: self.link() },
-            2 => Output::Answer { link: self.link(), stored: self.flag(), msg2: self.message() },
-            3 => Output::Resend { link: self.link(), message: self.message() },
-            4 => Output::Rekey { peer: self.peer(), on_link: self.flag(), reachable: self.flag() },
-            5 => self.install(),
-            6 => Output::Reset { peer: self.peer(), transition: self.of(&TRANSITIONS) },
-            7 => Output::Remove { peer: self.peer(), why: self.of(&WHYS) },
-            8 => Output::Retire { link: self.link(), closes: self.pairs() },
-            9 => Output::Release { link: self.link(), closes: self.pairs() },
-            10 => Output::Close { closes: self.pairs() },
-            11 => Output::Free { lease: self.lease() },
-            12 => Output::Retry { peer: self.peer() },
-            13 => self.reject(),
-            14 => Output::Wake { at: self.flag().then(|| self.link()) },
-            _ => unreachable!("the library writes outputs 1 to 14"),
-        }
+    /// An output: length, version 1, kind, and its fields with nothing after them.
+    fn output(&mut self) -> Option<Output<'a>> {
+        let [_, _, 1, kind] = self.array()? else { return None };
+        let output = match kind {
+            1 => Output::Opened { link: self.link()? },
+            2 => Output::Answer { link: self.link()?, stored: self.flag()?, msg2: self.message()? },
+            3 => Output::Resend { link: self.link()?, message: self.message()? },
+            4 => Output::Rekey { peer: self.peer()?, on_link: self.flag()?, reachable: self.flag()? },
+            5 => self.install()?,
+            6 => Output::Reset { peer: self.peer()?, transition: self.of(&TRANSITIONS)? },
+            7 => Output::Remove { peer: self.peer()?, why: self.of(&WHYS)? },
+            8 => Output::Retire { link: self.link()?, closes: self.pairs()? },
+            9 => Output::Release { link: self.link()?, closes: self.pairs()? },
+            10 => Output::Close { closes: self.pairs()? },
+            11 => Output::Free { lease: self.lease()? },
+            12 => Output::Retry { peer: self.peer()? },
+            13 => self.reject()?,
+            14 => Output::Wake { at: if self.flag()? { Some(self.link()?) } else { None } },
+            _ => return None,
+        };
+        self.0.is_empty().then_some(output)
     }
 
-    fn install(&mut self) -> Output<'a> {
-        Output::Install {
-            peer: self.peer(),
-            link: self.link(),
-            pair: self.pair(),
-            build: self.of(&[Build::Fresh, Build::FromCarry]),
-            initiator: self.flag(),
-            lease: self.lease(),
-        }
+    fn install(&mut self) -> Option<Output<'a>> {
+        Some(Output::Install {
+            peer: self.peer()?,
+            link: self.link()?,
+            pair: self.pair()?,
+            build: self.of(&[Build::Fresh, Build::FromCarry])?,
+            initiator: self.flag()?,
+            lease: self.lease()?,
+        })
     }
 
-    fn reject(&mut self) -> Output<'a> {
-        let asker = self.flag().then(|| (self.peer(), self.of(&SOURCES)));
-        Output::Reject { asker, why: self.of(&REASONS) }
+    fn reject(&mut self) -> Option<Output<'a>> {
+        let asker = if self.flag()? { Some((self.peer()?, self.of(&SOURCES)?)) } else { None };
+        Some(Output::Reject { asker, why: self.of(&REASONS)? })
     }
 }
 
@@ -235,3 +254,56 @@ const REASONS: [Reason; 7] = [
     Reason::ReplayFull,
     Reason::Silent,
 ];
+
+#[cfg(test)]
+mod tests {
+    use super::*;
+
+    const FREE: [u8; 8] = [0, 6, 1, 11, 0, 0, 0, 9];
+
+    fn read(written: &[u8]) -> Vec<Output<'_>> {
+        Outputs::of(written).collect()
+    }
+
+    #[test]
+    fn what_follows_an_unknown_one_is_read() {
+        let other = [0, 3, 1, 99, 7];
+        assert_eq!(read(&[&other[..], &FREE].concat()), [Output::Unknown { record: &other }, Output::Free { lease: 9 }]);
+    }
+
+    #[test]
+    fn what_does_not_read_is_unknown() {
+        let reset = [&[0, 19, 1, 6][..], &[2; 16], &[6]].concat();
+        let records: [&[u8]; 10] = [
+            &[0, 3, 1, 0, 0],                           // Done, which settle-tape writes
+            &[0, 6, 2, 11, 0, 0, 0, 9],                 // version 2
+            &reset,                                     // a transition of code 6
+            &[0, 5, 1, 11, 0, 0, 9],                    // a lease of 3 bytes
+            &[0, 7, 1, 11, 0, 0, 0, 9, 0],              // a byte too many
+            &[0, 3, 1, 14, 2],                          // a flag of 2
+            &[0, 8, 1, 10, 2, 0, 0, 0, 7, 0],           // a list of 2 with 1 pair
+            &[0, 10, 1, 10, 1, 0, 0, 0, 7, 4, b'e', 0], // an address cut short
+            &[0, 1, 1],                                 // no kind
+            &[0, 0],
+        ];
+        for record in records {
+            assert_eq!(read(&[record, &FREE].concat()), [Output::Unknown { record }, Output::Free { lease: 9 }]);
+        }
+    }
+
+    #[test]
+    fn what_cannot_be_cut_is_one() {
+        for record in [&FREE[..7], &[0]] {
+            assert_eq!(read(record), [Output::Unknown { record }]);
+        }
+        assert_eq!(read(&[]), []);
+    }
+
+    #[test]
+    fn a_list_has_its_pairs() {
+        let close = [0, 14, 1, 10, 2, 0, 0, 0, 7, 1, b'n', 0, 0, 0, 8, 0];
+        let [Output::Close { closes }] = read(&close)[..] else { panic!("one Close") };
+        let pairs = [Pair { transport: 7, addr: b"n" }, Pair { transport: 8, addr: b"" }];
+        assert_eq!(closes.collect::<Vec<_>>(), pairs);
+    }
+}

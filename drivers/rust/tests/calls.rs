@@ -58,3 +58,9 @@ fn bytes_beyond_are_kept() {
     let n = outputs.bytes().len();
     assert!(out[n..].iter().all(|b| *b == 0xaa));
 }
+
+#[test]
+fn a_table_has_the_size_that_the_documents_say() {
+    let table = Table::new(PEER, 1, None).unwrap();
+    assert_eq!(table.bytes().len(), 45_478);
+}
