@@ -3,6 +3,7 @@ use call_remove::peer::remove_at;
 use output_closes::put_close_header;
 use output_closes::put_pairs;
 use output_code::Why;
+use output_field::layout::LIST_HEAD;
 use output_record::put::put_free;
 use table_held::held_count;
 use table_held::held_peer;
@@ -54,7 +55,7 @@ fn retire_links(t: &mut [u8], out: &mut [u8], at: usize) -> Row
     ensures { λ r. ⌜ r .count ≤ 160 ⌝ }
 {
     let n = leg_count(t);
-    let mut e = at + 5;
+    let mut e = at + LIST_HEAD;
     let mut count = 0;
     let mut i = 0;
     while i < n {
@@ -86,7 +87,7 @@ fn close_links(t: &mut [u8], out: &mut [u8], at: usize) -> usize
     if count == 0 {
         return at;
     }
-    put_close_header(out, at, count, end - at - 5);
+    put_close_header(out, at, count, end - at - LIST_HEAD);
     end
 }
 

@@ -22,6 +22,21 @@ use crate::times::close_call;
 use crate::times::poll_call;
 use crate::times::wake_call;
 use call_contract::Answer;
+use input_frame::kind::ABANDON;
+use input_frame::kind::ARRIVED;
+use input_frame::kind::CLOSE;
+use input_frame::kind::DIAL;
+use input_frame::kind::HEARD;
+use input_frame::kind::MSG1;
+use input_frame::kind::MSG2;
+use input_frame::kind::PATH;
+use input_frame::kind::POLL;
+use input_frame::kind::RELEASE;
+use input_frame::kind::REMOVE;
+use input_frame::kind::REPLACEMENT;
+use input_frame::kind::SENT;
+use input_frame::kind::UNSENT;
+use input_frame::kind::WAKE;
 ghost use mathlib.Core.Path.{_≡_};
 ghost use Prim.Native.Nat.{_≤_, _<_};
 ghost use Rattle.input_call.specs.Read.{kindFields};
@@ -33,19 +48,19 @@ fn first_kinds(t: &mut [u8], out: &mut [u8], s: &[u8], at: usize, kind: u8, cloc
     requires { ⌜ kind < 6 ⌝ }
     ensures { λ r. ⌜ Answers (kindFields kind) clock at (now (s .entry)) (now (t .entry)) (now (out .entry)) (now (t .exit)) (now (out .exit)) (r .number) (r .len) ⌝ }
 {
-    if kind == 1 {
+    if kind == DIAL {
         return dial_call(t, out, s, at, clock);
     }
-    if kind == 2 {
+    if kind == ABANDON {
         return abandon_call(t, out, s, at, clock);
     }
-    if kind == 3 {
+    if kind == ARRIVED {
         return arrived_call(t, out, s, at, clock);
     }
-    if kind == 4 {
+    if kind == MSG1 {
         return msg1_call(t, out, s, at, clock);
     }
-    if kind == 5 {
+    if kind == REPLACEMENT {
         return replacement_call(t, out, s, at, clock);
     }
     Answer { number: 3, len: 0 }
@@ -57,13 +72,13 @@ fn middle_kinds(t: &mut [u8], out: &mut [u8], s: &[u8], at: usize, kind: u8, clo
     requires { ⌜ (6 ≤ kind) × (kind < 10) ⌝ }
     ensures { λ r. ⌜ Answers (kindFields kind) clock at (now (s .entry)) (now (t .entry)) (now (out .entry)) (now (t .exit)) (now (out .exit)) (r .number) (r .len) ⌝ }
 {
-    if kind == 6 {
+    if kind == SENT {
         return sent_call(t, out, s, at, clock);
     }
-    if kind == 7 {
+    if kind == UNSENT {
         return unsent_call(t, out, s, at, clock);
     }
-    if kind == 8 {
+    if kind == MSG2 {
         return msg2_call(t, out, s, at, clock);
     }
     restarted_call(t, out, s, at, clock)
@@ -75,19 +90,19 @@ fn last_kinds(t: &mut [u8], out: &mut [u8], s: &[u8], at: usize, kind: u8, clock
     requires { ⌜ (10 < kind) × (kind ≡ 12 → ⊥) ⌝ }
     ensures { λ r. ⌜ Answers (kindFields kind) clock at (now (s .entry)) (now (t .entry)) (now (out .entry)) (now (t .exit)) (now (out .exit)) (r .number) (r .len) ⌝ }
 {
-    if kind == 11 {
+    if kind == REMOVE {
         return remove_call(t, out, s, at, clock);
     }
-    if kind == 13 {
+    if kind == CLOSE {
         return close_call(t, out, s, at, clock);
     }
-    if kind == 14 {
+    if kind == PATH {
         return path_call(t, out, s, at, clock);
     }
-    if kind == 15 {
+    if kind == RELEASE {
         return release_call(t, out, s, at, clock);
     }
-    if kind == 16 {
+    if kind == WAKE {
         return wake_call(t, out, s, at, clock);
     }
     Answer { number: 3, len: 0 }
@@ -98,10 +113,10 @@ pub fn step(t: &mut [u8], out: &mut [u8], s: &[u8], at: usize, kind: u8, clock: 
     requires { ⌜ Asked (kindFields kind) clock at (now s) (now t) (now out) ⌝ }
     ensures { λ r. ⌜ Answers (kindFields kind) clock at (now (s .entry)) (now (t .entry)) (now (out .entry)) (now (t .exit)) (now (out .exit)) (r .number) (r .len) ⌝ }
 {
-    if kind == 10 {
+    if kind == HEARD {
         return heard_call(t, out, s, at, clock);
     }
-    if kind == 12 {
+    if kind == POLL {
         return poll_call(t, out, s, at, clock);
     }
     if kind < 6 {

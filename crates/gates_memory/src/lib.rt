@@ -108,7 +108,7 @@ pub fn ended_by(
     let s = counting(held, m.has_silence, epoch, clock, c);
     let x = ended_in(s, has_setup, setup, clock, c);
     let mut out = m;
-    out.silent = true;
+    out.has_silence = true;
     out.silence = x;
     out
 }

@@ -11,10 +11,16 @@ use input_field::read_pair;
 use input_field::read_peer;
 use input_field::read_u32;
 use input_field::read_u64;
+use lib_bytes::layout::U16;
+use lib_bytes::layout::U32;
+use lib_bytes::layout::U64;
 use node_addr::Digest;
 use node_addr::Message;
 use node_addr::NodeAddr;
 use node_addr::Pair;
+use node_addr::layout::DIGEST_LEN;
+use node_addr::layout::NODE_LEN;
+use node_addr::layout::PAIR_ADDR;
 ghost use mathlib.Core.Path.{_≡_};
 ghost use mathlib.Core.Bool.{true, _&&_};
 ghost use Prim.Native.Nat.{_+_, _≤_, _<_};
@@ -110,7 +116,7 @@ pub fn next_peer(s: &[u8], ok: bool, at: usize) -> PeerAt
     PeerAt {
         ok: true,
         value: value,
-        at: at + 16,
+        at: at + NODE_LEN,
     }
 }
 
@@ -138,7 +144,7 @@ pub fn next_digest(s: &[u8], ok: bool, at: usize) -> DigestAt
     DigestAt {
         ok: true,
         value: value,
-        at: at + 32,
+        at: at + DIGEST_LEN,
     }
 }
 
@@ -166,7 +172,7 @@ pub fn next_u64(s: &[u8], ok: bool, at: usize) -> U64At
     U64At {
         ok: true,
         value: value,
-        at: at + 8,
+        at: at + U64,
     }
 }
 
@@ -194,7 +200,7 @@ pub fn next_u32(s: &[u8], ok: bool, at: usize) -> U32At
     U32At {
         ok: true,
         value: value,
-        at: at + 4,
+        at: at + U32,
     }
 }
 
@@ -310,7 +316,7 @@ pub fn next_pair(s: &[u8], ok: bool, at: usize) -> PairAt
     PairAt {
         ok: true,
         value: value,
-        at: at + (5 + n),
+        at: at + (PAIR_ADDR + n),
     }
 }
 
@@ -330,7 +336,7 @@ pub fn skip_pair(s: &[u8], ok: bool, at: usize) -> PastAt
     }
     PastAt {
         ok: true,
-        at: at + (5 + n),
+        at: at + (PAIR_ADDR + n),
     }
 }
 
@@ -360,7 +366,7 @@ pub fn next_message(s: &[u8], ok: bool, at: usize) -> MessageAt
     MessageAt {
         ok: true,
         value: value,
-        at: at + (2 + n),
+        at: at + (U16 + n),
     }
 }
 
@@ -388,8 +394,11 @@ pub fn next_span(s: &[u8], ok: bool, at: usize) -> SpanAt
     }
     SpanAt {
         ok: true,
-        value: Span { at: at + 2, len: n },
-        at: at + (2 + n),
+        value: Span {
+            at: at + U16,
+            len: n,
+        },
+        at: at + (U16 + n),
     }
 }
 

@@ -1,4 +1,7 @@
 // The fields of a record. Each reader is handed the rest of the record from the field's first byte, and answers whether the field is there, and its value (blank where it is not).
+use lib_bytes::layout::U16;
+use lib_bytes::layout::U32;
+use lib_bytes::layout::U64;
 use lib_bytes::read::get_be;
 use lib_bytes::read::get_byte;
 use lib_bytes::read::take_128;
@@ -8,6 +11,12 @@ use node_addr::Message;
 use node_addr::NodeAddr;
 use node_addr::Pair;
 use node_addr::TransportId;
+use node_addr::layout::ADDR_CAP;
+use node_addr::layout::DIGEST_LEN;
+use node_addr::layout::MESSAGE_CAP;
+use node_addr::layout::NODE_LEN;
+use node_addr::layout::PAIR_ADDR;
+use node_addr::layout::PAIR_LEN;
 use node_addr::place::load_digest;
 use node_addr::place::load_node;
 use node_addr::place::load_wire_pair;
@@ -95,10 +104,10 @@ pub fn two_bytes(rest: &[u8]) -> usize
 pub fn read_peer(rest: &[u8]) -> ReadPeer
     ensures { λ r. ⌜ Parsed (replicate 16 0) (peer (now (rest .entry))) (r .ok) (r .value .0) 16 (now (rest .entry)) ⌝ }
 {
-    if rest.len() < 16 {
+    if rest.len() < NODE_LEN {
         return ReadPeer {
             ok: false,
-            value: NodeAddr([0u8; 16]),
+            value: NodeAddr([0u8; NODE_LEN]),
         };
     }
     let value = load_node(rest, 0);
@@ -112,10 +121,10 @@ pub fn read_peer(rest: &[u8]) -> ReadPeer
 pub fn read_digest(rest: &[u8]) -> ReadDigest
     ensures { λ r. ⌜ Parsed (replicate 32 0) (digest (now (rest .entry))) (r .ok) (r .value .0) 32 (now (rest .entry)) ⌝ }
 {
-    if rest.len() < 32 {
+    if rest.len() < DIGEST_LEN {
         return ReadDigest {
             ok: false,
-            value: Digest([0u8; 32]),
+            value: Digest([0u8; DIGEST_LEN]),
         };
     }
     let value = load_digest(rest, 0);
@@ -129,13 +138,13 @@ pub fn read_digest(rest: &[u8]) -> ReadDigest
 pub fn read_u64(rest: &[u8]) -> ReadU64
     ensures { λ r. ⌜ Parsed 0 (number 8 (now (rest .entry))) (r .ok) (r .value) 8 (now (rest .entry)) ⌝ }
 {
-    if rest.len() < 8 {
+    if rest.len() < U64 {
         return ReadU64 {
             ok: false,
             value: 0,
         };
     }
-    let value = get_be(rest, 0, 8);
+    let value = get_be(rest, 0, U64);
     ReadU64 {
         ok: true,
         value: value,
@@ -146,13 +155,13 @@ pub fn read_u64(rest: &[u8]) -> ReadU64
 pub fn read_u32(rest: &[u8]) -> ReadU32
     ensures { λ r. ⌜ Parsed 0 (lease (now (rest .entry))) (r .ok) (r .value) 4 (now (rest .entry)) ⌝ }
 {
-    if rest.len() < 4 {
+    if rest.len() < U32 {
         return ReadU32 {
             ok: false,
             value: 0,
         };
     }
-    let value = get_be(rest, 0, 4) as u32;
+    let value = get_be(rest, 0, U32) as u32;
     ReadU32 {
         ok: true,
         value: value,
@@ -222,7 +231,7 @@ fn no_pair() -> ReadPair
             transport: TransportId(0),
             addr: Addr {
                 len: 0,
-                bytes: [0u8; 48],
+                bytes: [0u8; ADDR_CAP],
             },
         },
     }
@@ -232,14 +241,14 @@ fn no_pair() -> ReadPair
 pub fn pair_span(rest: &[u8]) -> ReadSpan
     ensures { λ r. ⌜ Spelt (now (rest .entry)) (r .ok) (r .len) ⌝ }
 {
-    if rest.len() < 5 {
+    if rest.len() < PAIR_ADDR {
         return ReadSpan { ok: false, len: 0 };
     }
-    let n = get_byte(rest, 4) as usize;
-    if 48 < n {
+    let n = get_byte(rest, PAIR_LEN) as usize;
+    if ADDR_CAP < n {
         return ReadSpan { ok: false, len: 0 };
     }
-    if rest.len() - 5 < n {
+    if rest.len() - PAIR_ADDR < n {
         return ReadSpan { ok: false, len: 0 };
     }
     ReadSpan { ok: true, len: n }
@@ -265,7 +274,7 @@ fn no_message() -> ReadMessage
         ok: false,
         value: Message {
             len: 0,
-            bytes: [0u8; 128],
+            bytes: [0u8; MESSAGE_CAP],
         },
     }
 }
@@ -275,14 +284,14 @@ pub fn message_span(rest: &[u8]) -> ReadSpan
     ensures { λ r. ⌜ Parsed [] (message (now (rest .entry))) (r .ok) (take (r .len) (drop 2 (now (rest .entry)))) (2 + r .len) (now (rest .entry)) ⌝ }
     ensures { λ r. ⌜ r .len ≤ 128 ⌝ }
 {
-    if rest.len() < 2 {
+    if rest.len() < U16 {
         return ReadSpan { ok: false, len: 0 };
     }
     let n = two_bytes(rest);
-    if 128 < n {
+    if MESSAGE_CAP < n {
         return ReadSpan { ok: false, len: 0 };
     }
-    if rest.len() - 2 < n {
+    if rest.len() - U16 < n {
         return ReadSpan { ok: false, len: 0 };
     }
     ReadSpan { ok: true, len: n }
@@ -298,7 +307,7 @@ pub fn read_message(rest: &[u8]) -> ReadMessage
     if !m.ok {
         return no_message();
     }
-    let b = take_128(rest, 2, n);
+    let b = take_128(rest, U16, n);
     ReadMessage {
         ok: true,
         value: Message { len: n, bytes: b },

@@ -1,6 +1,14 @@
 // The start of a record: length (of what follows), version 1, kind, clock.
+pub mod kind;
+pub mod layout;
+
+use crate::layout::FRAME_KIND;
+use crate::layout::FRAME_LEN;
+use crate::layout::FRAME_VERSION;
+use crate::layout::VERSION;
 use input_cursor::next_u64;
 use input_field::two_bytes;
+use lib_bytes::layout::U16;
 ghost use mathlib.Core.Bool.{true};
 ghost use Rattle.lib_laws.specs.Follow.{Stepped};
 ghost use Rattle.input_frame.specs.Frame.{heading, Opens};
@@ -15,21 +23,21 @@ pub struct Frame {
 pub fn read_frame(rec: &[u8]) -> Frame
     ensures { λ r. ⌜ Stepped heading true 0 (now (rec .entry)) (r .ok) (r .kind) (r .at) ⌝ }
 {
-    if rec.len() < 4 {
+    if rec.len() < FRAME_LEN {
         return Frame {
             ok: false,
             kind: 0,
             at: 0,
         };
     }
-    if two_bytes(rec) + 2 != rec.len() {
+    if two_bytes(rec) + U16 != rec.len() {
         return Frame {
             ok: false,
             kind: 0,
             at: 0,
         };
     }
-    if rec[2] != 1 {
+    if rec[FRAME_VERSION] != VERSION {
         return Frame {
             ok: false,
             kind: 0,
@@ -38,8 +46,8 @@ pub fn read_frame(rec: &[u8]) -> Frame
     }
     Frame {
         ok: true,
-        kind: rec[3],
-        at: 4,
+        kind: rec[FRAME_KIND],
+        at: FRAME_LEN,
     }
 }
 

@@ -5,6 +5,7 @@ use input_cursor::next_code;
 use input_cursor::next_peer;
 use input_cursor::next_u32;
 use input_cursor::next_u64;
+use input_frame::kind::NEW;
 use input_frame::read_frame;
 use node_addr::NodeAddr;
 use params::Params;
@@ -126,7 +127,7 @@ fn is_new(ok: bool, kind: u8) -> bool
     if !ok {
         return false;
     }
-    kind == 17
+    kind == NEW
 }
 
 fn number_of(ok: bool, params: Params) -> u8

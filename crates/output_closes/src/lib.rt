@@ -1,8 +1,17 @@
 // The outputs with a list of pairs.
+use lib_bytes::layout::U64;
 use lib_bytes::write::put_be;
 use links::record::Closes;
 use node_addr::LinkNo;
 use node_addr::Pair;
+use output_code::kind::CLOSE;
+use output_code::kind::RELEASE;
+use output_code::kind::RETIRE;
+use output_field::layout::FRAME_LEN;
+use output_field::layout::LINK_LIST_HEAD;
+use output_field::layout::LINK_LIST_LEN;
+use output_field::layout::LIST_LEN;
+use output_field::layout::RELEASE_ONE_LEN;
 use output_field::put_frame;
 use output_field::put_pair;
 ghost use mathlib.Core.List.{[], _∷_};
@@ -40,9 +49,9 @@ pub fn put_retire(out: &mut [u8], at: usize, link: LinkNo, c: Closes) -> usize
     ensures { λ r. ⌜ Wrote (now (out .entry)) at (13 + length (pairsBytes (viewCloses c))) (outputRecord (Retire (link .0) (viewCloses c))) (now (out .exit)) r ⌝ }
 {
     let n = c.len;
-    let e = put_pairs(out, at + 13, c);
-    let a = put_frame(out, at, e - at - 4, 8);
-    let b = put_be(out, a, link.0, 8);
+    let e = put_pairs(out, at + LINK_LIST_HEAD, c);
+    let a = put_frame(out, at, e - at - FRAME_LEN, RETIRE);
+    let b = put_be(out, a, link.0, U64);
     put_be(out, b, n as u64, 1);
     e
 }
@@ -51,8 +60,8 @@ fn put_release_none(out: &mut [u8], at: usize, link: LinkNo) -> usize
     requires { ⌜ at + 13 ≤ length (now out) ⌝ }
     ensures { λ r. ⌜ Wrote (now (out .entry)) at 13 (outputRecord (Output.Release (link .0) [])) (now (out .exit)) r ⌝ }
 {
-    let a = put_frame(out, at, 9, 9);
-    let b = put_be(out, a, link.0, 8);
+    let a = put_frame(out, at, LINK_LIST_LEN, RELEASE);
+    let b = put_be(out, a, link.0, U64);
     put_be(out, b, 0, 1)
 }
 
@@ -62,8 +71,8 @@ fn put_release_one(out: &mut [u8], at: usize, link: LinkNo, p: Pair) -> usize
     ensures { λ r. ⌜ Wrote (now (out .entry)) at (18 + p .addr .len) (outputRecord (Output.Release (link .0) (viewPair p ∷ []))) (now (out .exit)) r ⌝ }
 {
     let len = p.addr.len;
-    let a = put_frame(out, at, 14 + len, 9);
-    let b = put_be(out, a, link.0, 8);
+    let a = put_frame(out, at, RELEASE_ONE_LEN + len, RELEASE);
+    let b = put_be(out, a, link.0, U64);
     let c = put_be(out, b, 1, 1);
     put_pair(out, c, p)
 }
@@ -89,6 +98,6 @@ pub fn put_close_header(out: &mut [u8], at: usize, count: usize, n: usize) -> us
     requires { ⌜ at + 5 ≤ length (now out) ⌝ }
     ensures { λ r. ⌜ Wrote (now (out .entry)) at 5 (closeHeader count n) (now (out .exit)) r ⌝ }
 {
-    let a = put_frame(out, at, 1 + n, 10);
+    let a = put_frame(out, at, LIST_LEN + n, CLOSE);
     put_be(out, a, count as u64, 1)
 }

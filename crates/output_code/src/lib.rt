@@ -1,4 +1,6 @@
 // The cases that an output names, and the byte of each.
+pub mod kind;
+
 use gates_types::Denial;
 use gates_types::Refusal;
 use gates_types::Source;

@@ -1,4 +1,10 @@
 // The parts of outputs: headers, flags, messages and pairs.
+pub mod layout;
+
+use crate::layout::FRAMED;
+use crate::layout::VERSION;
+use lib_bytes::layout::U16;
+use lib_bytes::layout::U32;
 use lib_bytes::write::put_48;
 use lib_bytes::write::put_be;
 use lib_bytes::write::put_byte;
@@ -18,8 +24,8 @@ pub fn put_frame(out: &mut [u8], at: usize, n: usize, kind: u8) -> usize
     requires { ⌜ at + 4 ≤ length (now out) ⌝ }
     ensures { λ r. ⌜ Wrote (now (out .entry)) at 4 (header kind n) (now (out .exit)) r ⌝ }
 {
-    let a = put_be(out, at, (n + 2) as u64, 2);
-    let b = put_byte(out, a, 1);
+    let a = put_be(out, at, (n + FRAMED) as u64, U16);
+    let b = put_byte(out, a, VERSION);
     put_byte(out, b, kind)
 }
 
@@ -38,7 +44,7 @@ pub fn put_message(out: &mut [u8], at: usize, src: &[u8], from: usize, n: usize)
     requires { ⌜ at + (2 + n) ≤ length (now out) ⌝ }
     ensures { λ r. ⌜ Wrote (now (out .entry)) at (2 + n) (messageBytes (take n (drop from (now (src .entry))))) (now (out .exit)) r ⌝ }
 {
-    let a = put_be(out, at, n as u64, 2);
+    let a = put_be(out, at, n as u64, U16);
     put_run(out, a, src, from, n)
 }
 
@@ -49,7 +55,7 @@ pub fn put_pair(out: &mut [u8], at: usize, p: Pair) -> usize
 {
     let b = p.addr.bytes;
     let n = p.addr.len;
-    let t = put_be(out, at, p.transport.0 as u64, 4);
+    let t = put_be(out, at, p.transport.0 as u64, U32);
     let l = put_be(out, t, n as u64, 1);
     put_48(out, l, b, n)
 }

@@ -1,6 +1,8 @@
 // The outputs of one record each, but those with a list.
 use gates_types::Denial;
 use gates_types::Source;
+use lib_bytes::layout::U32;
+use lib_bytes::layout::U64;
 use lib_bytes::write::put_be;
 use lib_bytes::write::put_byte;
 use node_addr::LinkNo;
@@ -12,9 +14,35 @@ use output_code::Transition;
 use output_code::Why;
 use output_code::build_code;
 use output_code::denial_code;
+use output_code::kind::ANSWER;
+use output_code::kind::DONE;
+use output_code::kind::FREE;
+use output_code::kind::INSTALL;
+use output_code::kind::OPENED;
+use output_code::kind::REJECT;
+use output_code::kind::REKEY;
+use output_code::kind::REMOVE;
+use output_code::kind::RESEND;
+use output_code::kind::RESET;
+use output_code::kind::RETRY;
+use output_code::kind::WAKE;
 use output_code::source_code;
 use output_code::transition_code;
 use output_code::why_code;
+use output_field::layout::ANSWER_LEN;
+use output_field::layout::DONE_LEN;
+use output_field::layout::FREE_LEN;
+use output_field::layout::INSTALL_LEN;
+use output_field::layout::OPENED_LEN;
+use output_field::layout::REJECT_LEN;
+use output_field::layout::REJECT_NOBODY_LEN;
+use output_field::layout::REKEY_LEN;
+use output_field::layout::REMOVE_LEN;
+use output_field::layout::RESEND_LEN;
+use output_field::layout::RESET_LEN;
+use output_field::layout::RETRY_LEN;
+use output_field::layout::WAKE_LEN;
+use output_field::layout::WAKE_NONE_LEN;
 use output_field::put_flag;
 use output_field::put_frame;
 use output_field::put_message;
@@ -35,7 +63,7 @@ pub fn put_done(out: &mut [u8], at: usize, number: u8) -> usize
     requires { ⌜ at + 5 ≤ length (now out) ⌝ }
     ensures { λ r. ⌜ Wrote (now (out .entry)) at 5 (doneRecord number) (now (out .exit)) r ⌝ }
 {
-    let a = put_frame(out, at, 1, 0);
+    let a = put_frame(out, at, DONE_LEN, DONE);
     put_byte(out, a, number)
 }
 
@@ -44,8 +72,8 @@ pub fn put_opened(out: &mut [u8], at: usize, link: LinkNo) -> usize
     requires { ⌜ at + 12 ≤ length (now out) ⌝ }
     ensures { λ r. ⌜ Wrote (now (out .entry)) at 12 (outputRecord (Opened (link .0))) (now (out .exit)) r ⌝ }
 {
-    let a = put_frame(out, at, 8, 1);
-    put_be(out, a, link.0, 8)
+    let a = put_frame(out, at, OPENED_LEN, OPENED);
+    put_be(out, a, link.0, U64)
 }
 
 // 2, of a message of n bytes that stands in another slice.
@@ -63,8 +91,8 @@ pub fn put_answer(
     requires { ⌜ at + (15 + n) ≤ length (now out) ⌝ }
     ensures { λ r. ⌜ Wrote (now (out .entry)) at (15 + n) (outputRecord (Output.Answer (link .0) stored (take n (drop from (now (src .entry)))))) (now (out .exit)) r ⌝ }
 {
-    let a = put_frame(out, at, 11 + n, 2);
-    let b = put_be(out, a, link.0, 8);
+    let a = put_frame(out, at, ANSWER_LEN + n, ANSWER);
+    let b = put_be(out, a, link.0, U64);
     let c = put_flag(out, b, stored);
     put_message(out, c, src, from, n)
 }
@@ -83,8 +111,8 @@ pub fn put_resend(
     requires { ⌜ at + (14 + n) ≤ length (now out) ⌝ }
     ensures { λ r. ⌜ Wrote (now (out .entry)) at (14 + n) (outputRecord (Resend (link .0) (take n (drop from (now (src .entry)))))) (now (out .exit)) r ⌝ }
 {
-    let a = put_frame(out, at, 10 + n, 3);
-    let b = put_be(out, a, link.0, 8);
+    let a = put_frame(out, at, RESEND_LEN + n, RESEND);
+    let b = put_be(out, a, link.0, U64);
     put_message(out, b, src, from, n)
 }
 
@@ -93,7 +121,7 @@ pub fn put_rekey(out: &mut [u8], at: usize, peer: NodeAddr, on_link: bool, reach
     requires { ⌜ at + 22 ≤ length (now out) ⌝ }
     ensures { λ r. ⌜ Wrote (now (out .entry)) at 22 (outputRecord (Rekey (peer .0) «on_link» reachable)) (now (out .exit)) r ⌝ }
 {
-    let a = put_frame(out, at, 18, 4);
+    let a = put_frame(out, at, REKEY_LEN, REKEY);
     let b = put_node(out, a, peer);
     let c = put_flag(out, b, on_link);
     put_flag(out, c, reachable)
@@ -118,13 +146,13 @@ pub fn put_install(
 {
     let code = build_code(build);
     let len = pair.addr.len;
-    let a = put_frame(out, at, 35 + len, 5);
+    let a = put_frame(out, at, INSTALL_LEN + len, INSTALL);
     let x = put_node(out, a, peer);
-    let y = put_be(out, x, link.0, 8);
+    let y = put_be(out, x, link.0, U64);
     let z = put_pair(out, y, pair);
     let b = put_byte(out, z, code);
     let f = put_flag(out, b, initiator);
-    put_be(out, f, lease as u64, 4)
+    put_be(out, f, lease as u64, U32)
 }
 
 // 6
@@ -133,7 +161,7 @@ pub fn put_reset(out: &mut [u8], at: usize, peer: NodeAddr, t: Transition) -> us
     ensures { λ r. ⌜ Wrote (now (out .entry)) at 21 (outputRecord (Reset (peer .0) (transitionOf t))) (now (out .exit)) r ⌝ }
 {
     let code = transition_code(t);
-    let a = put_frame(out, at, 17, 6);
+    let a = put_frame(out, at, RESET_LEN, RESET);
     let b = put_node(out, a, peer);
     put_byte(out, b, code)
 }
@@ -144,7 +172,7 @@ pub fn put_remove(out: &mut [u8], at: usize, peer: NodeAddr, w: Why) -> usize
     ensures { λ r. ⌜ Wrote (now (out .entry)) at 21 (outputRecord (Output.Remove (peer .0) (whyOf w))) (now (out .exit)) r ⌝ }
 {
     let code = why_code(w);
-    let a = put_frame(out, at, 17, 7);
+    let a = put_frame(out, at, REMOVE_LEN, REMOVE);
     let b = put_node(out, a, peer);
     put_byte(out, b, code)
 }
@@ -154,8 +182,8 @@ pub fn put_free(out: &mut [u8], at: usize, lease: u32) -> usize
     requires { ⌜ at + 8 ≤ length (now out) ⌝ }
     ensures { λ r. ⌜ Wrote (now (out .entry)) at 8 (outputRecord (Free lease)) (now (out .exit)) r ⌝ }
 {
-    let a = put_frame(out, at, 4, 11);
-    put_be(out, a, lease as u64, 4)
+    let a = put_frame(out, at, FREE_LEN, FREE);
+    put_be(out, a, lease as u64, U32)
 }
 
 // 12
@@ -163,7 +191,7 @@ pub fn put_retry(out: &mut [u8], at: usize, peer: NodeAddr) -> usize
     requires { ⌜ at + 20 ≤ length (now out) ⌝ }
     ensures { λ r. ⌜ Wrote (now (out .entry)) at 20 (outputRecord (Retry (peer .0))) (now (out .exit)) r ⌝ }
 {
-    let a = put_frame(out, at, 16, 12);
+    let a = put_frame(out, at, RETRY_LEN, RETRY);
     put_node(out, a, peer)
 }
 
@@ -173,7 +201,7 @@ fn put_reject_asked(out: &mut [u8], at: usize, peer: NodeAddr, source: Source, w
 {
     let s = source_code(source);
     let d = denial_code(why);
-    let a = put_frame(out, at, 19, 13);
+    let a = put_frame(out, at, REJECT_LEN, REJECT);
     let b = put_byte(out, a, 1);
     let c = put_node(out, b, peer);
     let e = put_byte(out, c, s);
@@ -185,7 +213,7 @@ fn put_reject_unasked(out: &mut [u8], at: usize, why: Denial) -> usize
     ensures { λ r. ⌜ Wrote (now (out .entry)) at 6 (outputRecord (Reject none (denialOf why))) (now (out .exit)) r ⌝ }
 {
     let d = denial_code(why);
-    let a = put_frame(out, at, 2, 13);
+    let a = put_frame(out, at, REJECT_NOBODY_LEN, REJECT);
     let b = put_byte(out, a, 0);
     put_byte(out, b, d)
 }
@@ -214,16 +242,16 @@ fn put_wake_at(out: &mut [u8], at: usize, time: u64) -> usize
     requires { ⌜ at + 13 ≤ length (now out) ⌝ }
     ensures { λ r. ⌜ Wrote (now (out .entry)) at 13 (outputRecord (Output.Wake (some time))) (now (out .exit)) r ⌝ }
 {
-    let a = put_frame(out, at, 9, 14);
+    let a = put_frame(out, at, WAKE_LEN, WAKE);
     let b = put_byte(out, a, 1);
-    put_be(out, b, time, 8)
+    put_be(out, b, time, U64)
 }
 
 fn put_wake_never(out: &mut [u8], at: usize) -> usize
     requires { ⌜ at + 5 ≤ length (now out) ⌝ }
     ensures { λ r. ⌜ Wrote (now (out .entry)) at 5 (outputRecord (Output.Wake none)) (now (out .exit)) r ⌝ }
 {
-    let a = put_frame(out, at, 1, 14);
+    let a = put_frame(out, at, WAKE_NONE_LEN, WAKE);
     put_byte(out, a, 0)
 }
 
