@@ -7,7 +7,7 @@ use gates_entry::at::has_silence_at;
 use gates_entry::at::has_stamp_at;
 use gates_entry::at::replay_count_at;
 use gates_entry::load::get_memory;
-use gates_judge::gate;
+use gates_judge::gate_at;
 use gates_judge::gate_blank;
 use gates_memory::ended_by;
 use gates_memory::lent::with_clear;
@@ -152,7 +152,7 @@ pub fn gate(
     ensures { λ r. ⌜ refusedBy r ≡ rule.gate (viewParams c) clock (asking source l digest epoch) (rule.memory (peer .0) (viewGates (now (s .entry)))) ⌝ }
 {
     match find_memory(s, peer) {
-        Found::At(i) => gate(s, i, source, l, digest, epoch, clock, c),
+        Found::At(i) => gate_at(s, i, source, l, digest, epoch, clock, c),
         Found::Nothing => gate_blank(source, l, clock, c),
     }
 }

@@ -185,7 +185,7 @@ fn judge(s: &[u8], i: usize, l: Liveness, digest: Digest, clock: u64, c: Params)
 }
 
 // The judgement of what asks, by the i-th memory.
-pub fn gate(
+pub fn gate_at(
     s: &[u8],
     i: usize,
     source: Source,

@@ -10,8 +10,8 @@ use Rattle.gates.specs.Order.{memory-at, memory-none}
 use Rattle.gates.proofs.calls.gate.Statement.{statement}
 use Rattle.gates.proofs.calls.gate.Tie as tie
 
-gate-requires : tie.Need-gate-requires
-gate-requires c κs =
+gate-at-requires : tie.Need-gate-at-requires
+gate-at-requires c κs =
     let f = c .before .before .before in
     let d = f .before .before in
     let o = finds-at (f .find-memory .ensures) (c .before .i .given .1) in
@@ -22,7 +22,7 @@ returns c =
     let f = c .before .before .before .before in
     let a = f .before .before .args in
     let o = finds-at (f .find-memory .ensures) (c .before .before .i .given .1) in
-    c .gate .ensures ∙ ap (gate (viewParams (a .c)) (a .clock) (asking (a .source) (a .l) (a .digest) (a .epoch))) (memory-at (a .peer .0) (viewGates (a .s .now)) _ noMemory o)
+    c .gate-at .ensures ∙ ap (gate (viewParams (a .c)) (a .clock) (asking (a .source) (a .l) (a .digest) (a .epoch))) (memory-at (a .peer .0) (viewGates (a .s .now)) _ noMemory o)
 
 returns-2 : tie.Need-returns-2
 returns-2 c =
@@ -37,7 +37,7 @@ gate-spec =
     (tie.spec
     (λ c κs. search needs)
     (λ c. search needs)
-    gate-requires
+    gate-at-requires
     (λ c. search needs)
     (λ c κs. search needs)
     returns

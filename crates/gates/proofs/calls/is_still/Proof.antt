@@ -17,7 +17,7 @@ returns-2 c =
     let f = c .before .before in
     let g = f .before in
     let d = g .before .before in
-    still-replayed (d .args .s .now) (d .args .i) (d .pre .0) (d .pre .1) (sym (g .has-stamp-at .ensures) ∙ not-false (g .has-stamp-at .result) (f .if1 .left)) (c .if2 .taken)
+    still-replayed (d .args .s .now) (d .args .i) (d .pre .0) (d .pre .1) (sym (g .has-stamp-at .ensures) ∙ not-false (g .has-stamp-at .result) (f .if1 .left)) (λ e. c .if2 .taken (c .before .replay-count-at .ensures ∙ e))
 
 returns-3 : tie.Need-returns-3
 returns-3 c =
@@ -25,19 +25,7 @@ returns-3 c =
     let f = h .before .before in
     let g = f .before in
     let d = g .before .before in
-    ap not (c .has-silence-at .ensures) ∙ still-silent (d .args .s .now) (d .args .i) (d .pre .0) (d .pre .1) (sym (g .has-stamp-at .ensures) ∙ not-false (g .has-stamp-at .result) (f .if1 .left)) (h .if2 .left)
+    ap not (c .has-silence-at .ensures) ∙ still-silent (d .args .s .now) (d .args .i) (d .pre .0) (d .pre .1) (sym (g .has-stamp-at .ensures) ∙ not-false (g .has-stamp-at .result) (f .if1 .left)) (sym (h .before .replay-count-at .ensures) ∙ h .if2 .left)
 
 pub is-still-spec : {M : Type 1} → statement M
-is-still-spec =
-    tie.close
-    (tie.spec
-    (λ c. search needs)
-    (λ c. search needs)
-    (λ c κs. search needs)
-    returns
-    (λ c. search needs)
-    (λ c. search needs)
-    returns-2
-    (λ c. search needs)
-    (λ c κs. search needs)
-    returns-3)
+is-still-spec = tie.close (tie.spec (λ c κs. search needs) returns (λ c κs. search needs) returns-2 (λ c κs. search needs) returns-3)

@@ -2,8 +2,8 @@ use mathlib.Core.Path.{sym, _∙_}
 use borrow.Author.Needs.{needs}
 use borrow.Author.Tests.{not-true, not-false}
 use Rattle.rules.specs.Gates.{gate}
-use Rattle.gates_judge.proofs.gate.Statement.{statement}
-use Rattle.gates_judge.proofs.gate.Tie as tie
+use Rattle.gates_judge.proofs.gate_at.Statement.{statement}
+use Rattle.gates_judge.proofs.gate_at.Tie as tie
 
 returns : tie.Need-returns
 unfolding gate
@@ -38,5 +38,5 @@ returns-4 c =
       sym (g .gated .ensures) ∙ not-false (g .gated .result) (c .before .if3 .left),
     ) (c .judge .ensures)
 
-pub gate-spec : {M : Type 1} → statement M
-gate-spec = tie.close (tie.spec (λ c κs. search needs) returns returns-2 (λ c κs. search needs) returns-3 (λ c κs. search needs) returns-4)
+pub gate-at-spec : {M : Type 1} → statement M
+gate-at-spec = tie.close (tie.spec (λ c κs. search needs) returns returns-2 (λ c κs. search needs) returns-3 (λ c κs. search needs) returns-4)
