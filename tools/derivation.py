@@ -60,6 +60,10 @@ class Derivation:
             place, thing = self.before[place]
             yield thing
 
+    def names(self, place):
+        """What a proof can name at a place: the things, the last first, and what is known at the entry."""
+        return [*self.things(place), *(field for field in self.entry if field != "κs")]
+
     def back(self, place, steps):
         """The place so many `.before` back, or None."""
         for _ in range(steps):

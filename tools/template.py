@@ -106,6 +106,6 @@ def changed(text, derivation, named=False):
     for start, end, variable, place in reversed(spans(text, derivation)):
         part = Part(text[start:end], variable, place, derivation)
         told = told[:start] + (part.named() if named else part.filled()) + told[end:]
-        things = ", ".join([*derivation.things(place), *derivation.entry])
+        things = ", ".join(derivation.names(place))
         unknown += [f"line {text.count(chr(10), 0, start) + 1}: {name} is none of {things}" for name in part.unknown]
     return told, unknown
