@@ -54,6 +54,11 @@ def path_of(fn):
     return fn.replace("::", "/")
 
 
+def short_names(text):
+    """antt's words with the modules of a repository's names left out."""
+    return re.sub(r"Rattle·\w+(?:·\w+)?\.(?:specs|proofs)\.(?:[\w+]+\.)*", "", text)
+
+
 def said_why(said):
     """The lines of rt that say why it stopped, for an error."""
     lines = [line for line in said.splitlines() if re.search(r"error|NOT PROVED|^rt:", line)]
