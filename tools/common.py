@@ -61,5 +61,5 @@ def short_names(text):
 
 def said_why(said):
     """The lines of rt that say why it stopped, for an error."""
-    lines = [line for line in said.splitlines() if re.search(r"error|NOT PROVED|^rt:", line)]
+    lines = [line for line in said.splitlines() if re.search(r"error|NOT PROVED|FAILED|^rt: (?!.* proved)", line)]
     return "\n".join(line[:300] for line in lines[:5]) or said[-600:]

@@ -25,10 +25,10 @@ def sources(crate):
     return total.hexdigest()
 
 
-def generate(crate):
+def generate(crate, anew=False):
     """Has rt write what it makes of a crate to target/gen, unless that is there for the code as it stands."""
     mark, now = f"{GENERATED}/{crate}.sum", sources(crate)
-    if os.path.isfile(mark) and open(mark).read() == now:
+    if not anew and os.path.isfile(mark) and open(mark).read() == now:
         return
     shutil.rmtree(f"{GENERATED}/Rattle.{crate}.proofs", ignore_errors=True)  # a function that is gone leaves nothing behind
     _, said = rt("dev", crate, "--generated", GENERATED)
@@ -43,6 +43,8 @@ class Derivation:
 
     def __init__(self, crate, fn):
         folder = f"{GENERATED}/Rattle.{crate}.proofs/proofs/{fn}"
+        if not os.path.isfile(f"{folder}/Tie.antt"):  # a function that it calls may have had no proof the last time
+            generate(crate, anew=True)
         if not os.path.isfile(f"{folder}/Tie.antt"):
             fail(f"no derivation of {fn} in {crate}: no such function, a cycle of calls, or one that the borrow checker does not cover (rt dev {crate} says which)")
         with open(f"{folder}/Lts.antt") as f:

@@ -1,4 +1,7 @@
-"""A proof with places by name, `{put_be .ensures}`, and the same with the chains, `(c .before .before .put-be .ensures)`."""
+"""A proof with places by name, `{put_be .ensures}`, and the same with the chains, `(c .before .before .put-be .ensures)`.
+
+With its places named a proof also names the need of each answer in the call of tie.spec, `(λ c. search needs) {- returns -}`, so that answers are
+found again where the code asks other needs."""
 import re
 
 TOKEN = re.compile(
@@ -27,6 +30,44 @@ def arguments(text, at):
     return spans + ([(start, len(text))] if start is not None else [])
 
 
+def answers(text):
+    """The arguments of tie.spec: span, and the need that a label names, or None."""
+    given = text.find("tie.spec")
+    found = []
+    words = arguments(text, given + len("tie.spec")) if given >= 0 else []
+    while words:
+        start, end = words.pop(0)
+        if text[start:end] == "{-" and found and len(words) > 1:
+            found[-1] = (*found[-1][:2], text[slice(*words.pop(0))], words.pop(0)[1])
+        else:
+            found.append((start, end, None, end))
+    return found
+
+
+def labelled(text, derivation):
+    """The proof with the need of each answer beside it."""
+    for need, (_, end, _, _) in zip(reversed(derivation.needs), reversed(answers(text))):
+        text = f"{text[:end]} {{- {need[5:]} -}}{text[end:]}"
+    return text
+
+
+def unlabelled(text, derivation):
+    """The proof with an answer to each need in the order of tie.spec, and which are new and which gone."""
+    found = answers(text)
+    known = {f"Need-{label}": text[start:end] for start, end, label, _ in found if label}
+    if not known:
+        return text, []
+    first = next(i for i, answer in enumerate(found) if answer[2])
+    gap = re.search(r"\s+$", text[: found[first][0]]).group(0)
+    kept = [known.get(need) or f"(λ c{' κs' if re.search('-requires(-[0-9]+)?$', need) else ''}. search needs)" for need in derivation.needs]
+    told = [f"new, answered by search needs: {need[5:]}" for need in derivation.needs if need not in known]
+    told += [f"not asked any more: {need[5:]}" for need in known if need not in derivation.needs]
+    text = text[: found[first][0]] + gap.join(kept) + text[found[-1][3] :]
+    if "search needs" in text and "borrow.Author.Needs" not in text:
+        text = re.sub(r"^use ", "use borrow.Author.Needs.{needs}\nuse ", text, count=1, flags=re.M)
+    return text, told
+
+
 def spans(text, derivation):
     """Each part of a proof in which a variable stands for what is known at a place: start, end, the variable, the place."""
     found = []
@@ -40,9 +81,7 @@ def spans(text, derivation):
         place = derivation.place.get(need.group(1)) if need else typed.group(1) if typed else None
         if clause and place:
             found.append((clause.end(), end, clause.group(1), place))
-    given = text.find("tie.spec")
-    args = arguments(text, given + len("tie.spec")) if given >= 0 else []
-    for need, (start, end) in zip(reversed(derivation.needs), reversed(args)):
+    for need, (start, end, _, _) in zip(reversed(derivation.needs), reversed(answers(text))):
         bound = re.match(r"\(λ (\S+?)(?: κs)?\. ", text[start:end])
         if bound:
             found.append((start + bound.end(), end - 1, bound.group(1), derivation.place[need]))
@@ -101,11 +140,14 @@ class Part:
 
 
 def changed(text, derivation, named=False):
-    """A proof filled, or with its places named; and each name that is no place before its need."""
-    unknown, told = [], text
-    for start, end, variable, place in reversed(spans(text, derivation)):
+    """A proof filled, or with its places named; and what is to be told: names that are no place before their need, needs that are new or gone."""
+    text, told = (text, []) if named else unlabelled(text, derivation)
+    parts = []
+    for start, end, variable, place in spans(text, derivation):
         part = Part(text[start:end], variable, place, derivation)
-        told = told[:start] + (part.named() if named else part.filled()) + told[end:]
-        things = ", ".join(derivation.names(place))
-        unknown += [f"line {text.count(chr(10), 0, start) + 1}: {name} is none of {things}" for name in part.unknown]
-    return told, unknown
+        parts.append((start, end, part.named() if named else part.filled()))
+        line = text.count("\n", 0, start) + 1
+        told += [f"line {line}: {name} is none of {', '.join(derivation.names(place))}" for name in part.unknown]
+    for start, end, new in reversed(parts):
+        text = text[:start] + new + text[end:]
+    return labelled(text, derivation) if named else text, told
