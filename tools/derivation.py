@@ -46,7 +46,10 @@ class Derivation:
         if not os.path.isfile(f"{folder}/Tie.antt"):  # a function that it calls may have had no proof the last time
             generate(crate, anew=True)
         if not os.path.isfile(f"{folder}/Tie.antt"):
-            fail(f"no derivation of {fn} in {crate}: no such function, a cycle of calls, or one that the borrow checker does not cover (rt dev {crate} says which)")
+            fail(
+                f"no derivation of {fn} in {crate}: no such function, one that calls what is not proved, a cycle of calls, or one that the borrow "
+                f"checker does not cover (rt dev {crate} says which)"
+            )
         with open(f"{folder}/Lts.antt") as f:
             lts = f.read()
         with open(f"{folder}/Tie.antt") as f:

@@ -10,7 +10,7 @@ TOKEN = re.compile(
 )
 HEAD = re.compile(r"^(?:pub |abbrev |unfoldable )*(\S+) :", re.M)
 LET = re.compile(r"let (\S+) = \(?$")
-BARE = re.compile(r"(?:^|[(,=∙;.→]|\bin)\s*$")  # after these a chain needs no parentheses
+BARE = re.compile(r"(?:^|[(,=∙;.→←:<≤≡+×]|\bin)\s*$")  # after these a chain needs no parentheses
 
 
 def arguments(text, at):
