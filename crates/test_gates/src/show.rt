@@ -56,9 +56,9 @@ fn find(s: &[u8], peer: u64)
 }
 
 // Their epoch, how many, the end of the refusal, how many digests.
-fn silence(silent: bool, x: Silence) {
+fn silence(has_silence: bool, x: Silence) {
     perhaps(x.has_epoch, x.epoch);
-    perhaps(silent, x.count as u64);
+    perhaps(has_silence, x.count as u64);
     perhaps(x.has_until, x.until);
     number(x.counted.len as u64);
 }
@@ -71,7 +71,7 @@ fn memory(s: &[u8], peer: u64)
     let x = m.silence;
     perhaps(m.has_stamp, m.stamp);
     number(m.replays.len as u64);
-    silence(m.silent, x);
+    silence(m.has_silence, x);
 }
 
 fn source(v: u64) -> Source {
