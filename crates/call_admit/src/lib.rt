@@ -1,4 +1,4 @@
-// What a msg1 meets: the stored answer to one that came before, the ruling on a new one, and the answer to one that is admitted.
+// A msg1 that asks to be admitted: the ruling on it, what is written for it, the holder that it displaces, the answer.
 pub mod admit;
 pub mod answer;
 pub mod displace;

@@ -45,7 +45,7 @@ struct Row {
     end: usize,
 }
 
-// Retires the link of each leg, and writes what is to close behind the 5 bytes of a header.
+// Retires the link of each leg, and writes what is to close behind a header.
 // The place behind these may be past the end of the buffer where nothing is to close.
 fn retire_links(t: &mut [u8], out: &mut [u8], at: usize) -> Row
     requires { ⌜ FitTable (now t) ⌝ }

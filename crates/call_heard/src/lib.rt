@@ -1,2 +1,2 @@
-// What is heard of held peers, the paths of their links, and when the table wants a poll.
+// What is heard of held peers: a restart, a frame.
 pub mod peer;

@@ -4,6 +4,7 @@ pub mod named;
 
 use crate::count::count_places;
 use crate::named::has_place;
+use links_entry::layout::LINK_CAP;
 use node_addr::NodeAddr;
 use table_gates::memory_count;
 use table_held::held_count;
@@ -18,13 +19,19 @@ ghost use Rattle.call_contract.specs.Sound.{Ready};
 ghost use Rattle.table_layout.specs.View.{viewTable, FitTable};
 ghost use Rattle.call_limits.specs.Enter.{Enters};
 
+// The number that no link gets.
+const LAST_NO: u64 = 18446744073709551615;
+
+// How many peers have a place.
+const PLACES: usize = 32;
+
 // 4: whether the next link number is the last one, which no link gets.
 pub fn numbers_exhausted(t: &[u8]) -> bool
     requires { ⌜ FitTable (now t) ⌝ }
     ensures { λ r. ⌜ r ≡ eqb (viewTable (now (t .entry)) .next) (2 ^ 64 - 1) ⌝ }
 {
     let n = next_no(t);
-    n == 18446744073709551615
+    n == LAST_NO
 }
 
 // Whether held peers, legs and memories together are so few that a place is left.
@@ -35,7 +42,7 @@ fn roomy(t: &[u8]) -> bool
     let h = held_count(t);
     let l = leg_count(t);
     let m = memory_count(t);
-    h + l + m < 32
+    h + l + m < PLACES
 }
 
 // 5: 32 links are live; 6: the peer has no place and 32 places are used; 0: neither.
@@ -44,7 +51,7 @@ pub fn room_refusal(t: &[u8], peer: NodeAddr) -> u8
     ensures { λ r. ⌜ Enters r (peer .0) (viewTable (now (t .entry))) ⌝ }
 {
     let n = link_count(t);
-    if 32 <= n {
+    if LINK_CAP <= n {
         return 5;
     }
     if roomy(t) {
@@ -54,7 +61,7 @@ pub fn room_refusal(t: &[u8], peer: NodeAddr) -> u8
         return 0;
     }
     let k = count_places(t);
-    if k < 32 {
+    if k < PLACES {
         return 0;
     }
     6

@@ -1,3 +1,3 @@
-// A msg1 that was read and verified, and what it may ask: an answer, a rekey, a restart, a replacement.
+// The calls of a msg1: arrived, before it is read; msg1 and replacement, read and verified.
 pub mod arrived;
 pub mod msg1;

@@ -1,3 +1,3 @@
-// What comes with time, and the end: poll and close.
+// What comes with time: poll, and when the next is wanted.
 pub mod poll;
 pub mod wake;

@@ -1,4 +1,4 @@
-// What is remembered of a peer in lent memory: the entry of a memory, 634 bytes, read and written.
+// What is remembered of a peer in lent memory: the entry of a memory, read and written.
 pub mod at;
 pub mod layout;
 pub mod load;

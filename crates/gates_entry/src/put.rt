@@ -1,5 +1,7 @@
 // A memory written to its entry. A writer answers the place after what it wrote.
+use crate::layout::DIGEST_CAP;
 use crate::layout::DIGEST_COUNT;
+use crate::layout::REPLAY_CAP;
 use crate::layout::REPLAY_COUNT;
 use crate::layout::REPLAY_WIDTH;
 use gates_types::Digests;
@@ -39,7 +41,7 @@ fn put_replays(s: &mut [u8], at: usize, r: Replays) -> usize
     ensures { λ q. ⌜ Wrote (now (s .entry)) at replaysLen (replaysBytes r) (now (s .exit)) q ⌝ }
 {
     let mut i = 0;
-    while i < 8 {
+    while i < REPLAY_CAP {
         let e = r.places[i];
         put_replay(s, at + i * REPLAY_WIDTH, e);
         i += 1;
@@ -54,7 +56,7 @@ fn put_digests(s: &mut [u8], at: usize, d: Digests) -> usize
     ensures { λ q. ⌜ Wrote (now (s .entry)) at digestsLen (digestsBytes d) (now (s .exit)) q ⌝ }
 {
     let mut i = 0;
-    while i < 8 {
+    while i < DIGEST_CAP {
         let e = d.places[i];
         put_digest(s, at + i * DIGEST_LEN, e);
         i += 1;
@@ -90,7 +92,7 @@ fn put_front(s: &mut [u8], at: usize, m: Memory) -> usize
     put_flag(s, c, m.has_silence)
 }
 
-// A memory, 634 bytes.
+// A memory.
 pub fn put_memory(s: &mut [u8], at: usize, m: Memory) -> usize
     requires { ⌜ FitMemory m ⌝ }
     requires { ⌜ at + memoryWidth ≤ length (now s) ⌝ }

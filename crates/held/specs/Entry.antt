@@ -117,40 +117,6 @@ fit-here s i f h = subst FitCells (sym (cells-here s i f h)) (fit-at heldOf i []
 pub held-here : (s : Bytes) (i : ℕ) → FitHeld s → i < heldCount s → heldFrom (cuts (i * heldWidth) 0 heldWs s) ≡ nthHeld s i
 held-here s i f h = ap heldFrom (cells-here s i f h) ∙ shown heldOf i [] noHeld (f .kept) h
 
--- h was read at a
-pub record Loaded (h : held.Held) (a : ℕ) (s : Bytes) : Type 0 where
-  pub peer : h .peer .0 ≡ take 16 (drop a s)
-  pub link : h .link .0 ≡ num (take 8 (drop (a + atHeldLink) s))
-  pub epoch : h .epoch ≡ num (take 8 (drop (a + atHeldEpoch) s))
-  pub installed : h .installed ≡ num (take 8 (drop (a + atInstalled) s))
-  pub heard : h .heard ≡ flagOf (take 1 (drop (a + atHeard) s))
-  pub «has_last» : h .«has_last» ≡ flagOf (take 1 (drop (a + atHasLast) s))
-  pub last : h .last ≡ num (take 8 (drop (a + atLast) s))
-  pub «has_setup» : h .«has_setup» ≡ flagOf (take 1 (drop (a + atHasSetup) s))
-  pub setup : h .setup .0 ≡ take 32 (drop (a + atHeldSetup) s)
-  pub fit : FitPair (h .current)
-  pub current : viewPair (h .current) ≡ pairOf (take pairWidth (drop (a + atCurrent) s))
-
--- where the flag is not set
-clear : {f s : Bytes} {w : ℕ} {b : Bool} → Optional w f s → b ≡ flagOf f → b ≡ false → s ≡ replicate w 0
-clear o e q = o .blank (sym e ∙ q)
-
 pub num-zeros : num (replicate 8 0) ≡ 0
 unfolding more
 num-zeros = refl
-
-pub held-loaded : (s : Bytes) (i : ℕ) (h : held.Held) → FitHeld s → i < heldCount s → Loaded h (i * heldWidth) s → FitRec h × (viewRec h ≡ nthHeld s i)
-held-loaded s i h f l r =
-    let z : i * heldWidth + 0 ≡ i * heldWidth = add-zero (i * heldWidth) in
-    let k = fit-here s i f l in
-    let v : viewRec h ≡ heldFrom (cuts (i * heldWidth) 0 heldWs s) =
-    rw (r .peer, r .link, r .epoch, r .installed, r .heard, r .«has_last», r .last, r .«has_setup», r .setup, r .current, z) in (
-      record {
-        peer = rw (r .peer) (length-take-le 16 (drop (i * heldWidth) s) (rw length-drop (omega arith)));
-        setup = rw (r .setup) (k .setup .size);
-        current = r .fit;
-        undated = λ e. r .last ∙ ap num (clear (k .last) (r .«has_last») e) ∙ num-zeros;
-        unanswered = λ e. r .setup ∙ clear (k .setup) (r .«has_setup») e;
-      },
-      v ∙ held-here s i f l,
-    )

@@ -14,7 +14,7 @@ use Rattle.lib_laws.specs.Store.{store-zeros, same-view}
 use Rattle.lib_laws.specs.Same.{cell-bytes, num-cells, cells-same, with-bytes}
 use Rattle.node_addr.specs.Place.{pair-cell-same}
 use Rattle.node_addr.specs.Layout.{pairWidth}
-use Rattle.held.specs.Layout.{atCurrent, heldWs, atHeldCount, heldCap, heldLen, heldWidth}
+use Rattle.held.specs.Layout.{atCurrent, heldWs, atHeldCount, heldCap, heldLen, heldWidth, atHeldEpoch, atInstalled, atHeldLink, atLast}
 use Rattle.held.specs.View.{heldOf, FitHeldCell, viewHeld, FitHeld, heldCount, fit-zeros}
 
 -- ---- new memory
@@ -31,11 +31,11 @@ shows-none = no-entries (replicate heldLen 0) (getD-replicate {A = ℕ} heldLen 
 entry-same : (c d : Bytes) → (FitHeldCell c × All IsByte c) × (length c ≡ heldWidth) → (FitHeldCell d × All IsByte d) × (length d ≡ heldWidth) → heldOf c ≡ heldOf d → c ≡ d
 unfolding sum
 entry-same c d ((f, a), y) ((g, b), z) e =
-    let link = num-cells 8 16 c d (omega arith) (omega arith) a b (ap (λ (h : Held). h .link) e) in
-    let epoch = num-cells 8 24 c d (omega arith) (omega arith) a b (ap (λ (h : Held). h .epoch) e) in
-    let installed = num-cells 8 32 c d (omega arith) (omega arith) a b (ap (λ (h : Held). h .installed) e) in
+    let link = num-cells 8 atHeldLink c d (omega arith) (omega arith) a b (ap (λ (h : Held). h .link) e) in
+    let epoch = num-cells 8 atHeldEpoch c d (omega arith) (omega arith) a b (ap (λ (h : Held). h .epoch) e) in
+    let installed = num-cells 8 atInstalled c d (omega arith) (omega arith) a b (ap (λ (h : Held). h .installed) e) in
     let heard = flag-same (f .heard) (g .heard) (ap (λ (h : Held). h .heard) e) in
-    let last = option-num-same (f .last) (g .last) (cell-bytes 8 42 c a) (cell-bytes 8 42 d b) (ap (λ (h : Held). h .last) e) in
+    let last = option-num-same (f .last) (g .last) (cell-bytes 8 atLast c a) (cell-bytes 8 atLast d b) (ap (λ (h : Held). h .last) e) in
     let setup = option-bytes-same (f .setup) (g .setup) (ap (λ (h : Held). h .setup) e) in
     let current = pair-cell-same (f .current) (g .current) (cell-bytes pairWidth atCurrent c a) (cell-bytes pairWidth atCurrent d b) (ap (λ (h : Held). h .current) e) in
     cells-same 0 heldWs c d y z (rw (ap (λ (h : Held). h .peer) e, link, epoch, installed, heard, last .0, last .1, setup .0, setup .1, current))

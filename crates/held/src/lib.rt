@@ -1,4 +1,4 @@
-// Peers held, in lent memory: 32 entries of 136 bytes in the order of their addresses, and then their count.
+// Peers held, in lent memory: up to 32 in the order of their addresses, and then their count.
 pub mod at;
 mod change;
 mod entry;

@@ -1,14 +1,13 @@
 // The start of a record: length (of what follows), version 1, kind, clock.
 pub mod kind;
-pub mod layout;
 
-use crate::layout::FRAME_KIND;
-use crate::layout::FRAME_LEN;
-use crate::layout::FRAME_VERSION;
-use crate::layout::VERSION;
 use input_cursor::next_u64;
 use input_field::two_bytes;
 use lib_bytes::layout::U16;
+use node_addr::layout::FRAME_KIND;
+use node_addr::layout::FRAME_LEN;
+use node_addr::layout::FRAME_VERSION;
+use node_addr::layout::VERSION;
 ghost use mathlib.Core.Bool.{true};
 ghost use Rattle.lib_laws.specs.Follow.{Stepped};
 ghost use Rattle.input_frame.specs.Frame.{heading, Opens};

@@ -25,7 +25,7 @@ use Rattle.node_addr.specs.Alike.{byte-here}
 use Rattle.legs_entry.specs.View.{cell, legFrom, legOf, FitCells, FitLegCell, viewLegs, FitLegs, legCount, noLeg, legAt}
 use Rattle.legs_entry.specs.Entry.{optional-number, cells-here}
 use Rattle.legs_entry.specs.Start.{again}
-use Rattle.legs_entry.specs.Layout.{atAnswer, atAnswerSent, atHasNext, atLegCount, atReplaces, legCap, legWidth, legWs}
+use Rattle.legs_entry.specs.Layout.{atAnswer, atAnswerSent, atHasNext, atLegCount, atReplaces, legCap, legWidth, legWs, atNextResend, atSent}
 
 -- the bytes of the i-th leg
 abbrev pub entryAt : Bytes → ℕ → Bytes
@@ -72,11 +72,11 @@ unsent-kind true m d p r q = refl
 unsent-kind false m d p r q = refl
 
 module _ (c : Bytes) (z : length c ≡ legWidth) (f : FitLegCell c) where
-  sent-cuts : (b : ℕ) → cuts 0 0 legWs (splice c 51 (b ∷ [])) ≡ set (cuts 0 0 legWs c) 9 (b ∷ [])
+  sent-cuts : (b : ℕ) → cuts 0 0 legWs (splice c atAnswerSent (b ∷ [])) ≡ set (cuts 0 0 legWs c) 9 (b ∷ [])
   unfolding sum
-  sent-cuts b = cuts-set 0 0 legWs c 9 51 (b ∷ []) (lit< tt) (omega arith) refl refl
+  sent-cuts b = cuts-set 0 0 legWs c 9 atAnswerSent (b ∷ []) (lit< tt) (omega arith) refl refl
 
-  sent-fits : (b : ℕ) → b ≡ byteOf (cell (cuts 0 0 legWs c) 6) → FitLegCell (splice c 51 (b ∷ []))
+  sent-fits : (b : ℕ) → b ≡ byteOf (cell (cuts 0 0 legWs c) 6) → FitLegCell (splice c atAnswerSent (b ∷ []))
   sent-fits b e = subst FitCells (sym (sent-cuts b)) (record {
     next = f .next;
     answer = f .answer;
@@ -90,16 +90,16 @@ module _ (c : Bytes) (z : length c ≡ legWidth) (f : FitLegCell c) where
         record { «answer_sent» = rw (e, low-zero (f .answer) q); replaces = k .replaces; epoch = k .epoch; digest = k .digest; len2 = k .len2; msg2 = k .msg2 };
   })
 
-  sent-shows : (b : ℕ) → b ≡ byteOf (cell (cuts 0 0 legWs c) 6) → legOf (splice c 51 (b ∷ [])) ≡ markSent (legOf c)
+  sent-shows : (b : ℕ) → b ≡ byteOf (cell (cuts 0 0 legWs c) 6) → legOf (splice c atAnswerSent (b ∷ [])) ≡ markSent (legOf c)
   sent-shows b e =
       ap legFrom (sent-cuts b) ∙ rw e (ap (λ (k : Kind). withKind k (legOf c)) (sent-kind (flagOf (cell (cuts 0 0 legWs c) 6)) _ _ _ _ _))
 
   -- ---- unsent: the answer replaces nothing
-  unsent-cuts : cuts 0 0 legWs (splice c 52 (0 ∷ [])) ≡ set (cuts 0 0 legWs c) 10 (0 ∷ [])
+  unsent-cuts : cuts 0 0 legWs (splice c atReplaces (0 ∷ [])) ≡ set (cuts 0 0 legWs c) 10 (0 ∷ [])
   unfolding sum
-  unsent-cuts = cuts-set 0 0 legWs c 10 52 (0 ∷ []) (lit< tt) (omega arith) refl refl
+  unsent-cuts = cuts-set 0 0 legWs c 10 atReplaces (0 ∷ []) (lit< tt) (omega arith) refl refl
 
-  unsent-fits : FitLegCell (splice c 52 (0 ∷ []))
+  unsent-fits : FitLegCell (splice c atReplaces (0 ∷ []))
   unsent-fits = subst FitCells (sym unsent-cuts) (record {
     next = f .next;
     answer = f .answer;
@@ -113,28 +113,28 @@ module _ (c : Bytes) (z : length c ≡ legWidth) (f : FitLegCell c) where
         record { «answer_sent» = k .«answer_sent»; replaces = refl; epoch = k .epoch; digest = k .digest; len2 = k .len2; msg2 = k .msg2 };
   })
 
-  unsent-shows : legOf (splice c 52 (0 ∷ [])) ≡ markUnsent (legOf c)
+  unsent-shows : legOf (splice c atReplaces (0 ∷ [])) ≡ markUnsent (legOf c)
   unsent-shows = ap legFrom unsent-cuts ∙ ap (λ (k : Kind). withKind k (legOf c)) (unsent-kind (flagOf (cell (cuts 0 0 legWs c) 6)) _ _ _ _ _)
 
   -- ---- the next resend, and how many were sent
   module _ (t : Bool) (v n : ℕ) where
-    again-cuts : cuts 0 0 legWs (splice c 16 ((one t ∷ []) ++ digits 8 v ++ digits 4 n)) ≡ set (set (set (cuts 0 0 legWs c) 2 (one t ∷ [])) 3 (digits 8 v)) 4 (digits 4 n)
+    again-cuts : cuts 0 0 legWs (splice c atHasNext ((one t ∷ []) ++ digits 8 v ++ digits 4 n)) ≡ set (set (set (cuts 0 0 legWs c) 2 (one t ∷ [])) 3 (digits 8 v)) 4 (digits 4 n)
     unfolding sum
     again-cuts =
         let l8 : length (digits 8 v) ≡ 8 = length-digits 8 v in
         let l4 : length (digits 4 n) ≡ 4 = length-digits 4 n in
-        let z1 : length (splice c 16 (one t ∷ [])) ≡ legWidth = length-splice c 16 (one t ∷ []) (omega arith) ∙ z in
-        let z2 : length (splice (splice c 16 (one t ∷ [])) 17 (digits 8 v)) ≡ legWidth = length-splice (splice c 16 (one t ∷ [])) 17 (digits 8 v) (omega arith) ∙ z1 in
-        let e1 : splice c 16 ((one t ∷ []) ++ digits 8 v) ≡ splice (splice c 16 (one t ∷ [])) 17 (digits 8 v) = sym (splice-splice c 16 (one t ∷ []) (digits 8 v) (omega arith)) in
+        let z1 : length (splice c atHasNext (one t ∷ [])) ≡ legWidth = length-splice c atHasNext (one t ∷ []) (omega arith) ∙ z in
+        let z2 : length (splice (splice c atHasNext (one t ∷ [])) atNextResend (digits 8 v)) ≡ legWidth = length-splice (splice c atHasNext (one t ∷ [])) atNextResend (digits 8 v) (omega arith) ∙ z1 in
+        let e1 : splice c atHasNext ((one t ∷ []) ++ digits 8 v) ≡ splice (splice c atHasNext (one t ∷ [])) atNextResend (digits 8 v) = sym (splice-splice c atHasNext (one t ∷ []) (digits 8 v) (omega arith)) in
         let l9 : length ((one t ∷ []) ++ digits 8 v) ≡ 9 = omega arith in
-        let e2 : splice c 16 ((one t ∷ []) ++ digits 8 v ++ digits 4 n) ≡ splice (splice (splice c 16 (one t ∷ [])) 17 (digits 8 v)) 25 (digits 4 n) =
-        sym (splice-splice c 16 ((one t ∷ []) ++ digits 8 v) (digits 4 n) (omega arith)) ∙ rw (l9, e1) in
+        let e2 : splice c atHasNext ((one t ∷ []) ++ digits 8 v ++ digits 4 n) ≡ splice (splice (splice c atHasNext (one t ∷ [])) atNextResend (digits 8 v)) atSent (digits 4 n) =
+        sym (splice-splice c atHasNext ((one t ∷ []) ++ digits 8 v) (digits 4 n) (omega arith)) ∙ rw (l9, e1) in
         ap (cuts 0 0 legWs) e2
-        ∙ cuts-set 0 0 legWs (splice (splice c 16 (one t ∷ [])) 17 (digits 8 v)) 4 25 (digits 4 n) (lit< tt) (omega arith) l4 refl
-        ∙ ap (λ (x : List Bytes). set x 4 (digits 4 n)) (cuts-set 0 0 legWs (splice c 16 (one t ∷ [])) 3 17 (digits 8 v) (lit< tt) (omega arith) l8 refl)
-        ∙ ap (λ (x : List Bytes). set (set x 3 (digits 8 v)) 4 (digits 4 n)) (cuts-set 0 0 legWs c 2 16 (one t ∷ []) (lit< tt) (omega arith) refl refl)
+        ∙ cuts-set 0 0 legWs (splice (splice c atHasNext (one t ∷ [])) atNextResend (digits 8 v)) 4 atSent (digits 4 n) (lit< tt) (omega arith) l4 refl
+        ∙ ap (λ (x : List Bytes). set x 4 (digits 4 n)) (cuts-set 0 0 legWs (splice c atHasNext (one t ∷ [])) 3 atNextResend (digits 8 v) (lit< tt) (omega arith) l8 refl)
+        ∙ ap (λ (x : List Bytes). set (set x 3 (digits 8 v)) 4 (digits 4 n)) (cuts-set 0 0 legWs c 2 atHasNext (one t ∷ []) (lit< tt) (omega arith) refl refl)
 
-    again-fits : (t ≡ false → v ≡ 0) → FitLegCell (splice c 16 ((one t ∷ []) ++ digits 8 v ++ digits 4 n))
+    again-fits : (t ≡ false → v ≡ 0) → FitLegCell (splice c atHasNext ((one t ∷ []) ++ digits 8 v ++ digits 4 n))
     again-fits q = subst FitCells (sym again-cuts) (record {
       next = optional-number t v q;
       answer = f .answer;
@@ -148,7 +148,7 @@ module _ (c : Bytes) (z : length c ≡ legWidth) (f : FitLegCell c) where
           record { «answer_sent» = k .«answer_sent»; replaces = k .replaces; epoch = k .epoch; digest = k .digest; len2 = k .len2; msg2 = k .msg2 };
     })
 
-    again-shows : Fits w64 v → Fits w32 n → legOf (splice c 16 ((one t ∷ []) ++ digits 8 v ++ digits 4 n)) ≡ again (if t then some v else none) n (legOf c)
+    again-shows : Fits w64 v → Fits w32 n → legOf (splice c atHasNext ((one t ∷ []) ++ digits 8 v ++ digits 4 n)) ≡ again (if t then some v else none) n (legOf c)
     again-shows p q = ap legFrom again-cuts ∙ rw (flag-shows t, more-digits 8 v (p .fits), more-digits 4 n (q .fits))
 
 -- ---- the same of the region
@@ -159,18 +159,18 @@ module _ {s l : Bytes} {q : ℕ} (i : ℕ) where
       let z = entry-size s i f h in
       let k = entry-fit s i f h in
       let x : b ≡ byteOf (cell (cuts 0 0 legWs (entryAt s i)) 6) = e ∙ byte-here s (i * legWidth + atAnswer) ∙ ap (λ (fs : List Bytes). byteOf (cell fs 6)) (cells-here s i f h) in
-      changed-here i 51 (markSent (legAt s i)) a f h (lit≤ tt) (sent-fits (entryAt s i) z k b x) (sent-shows (entryAt s i) z k b x ∙ ap markSent (entry-shows s i f h))
+      changed-here i atAnswerSent (markSent (legAt s i)) a f h (lit≤ tt) (sent-fits (entryAt s i) z k b x) (sent-shows (entryAt s i) z k b x ∙ ap markSent (entry-shows s i f h))
 
   pub marked-unsent : Wrote s (i * legWidth + atReplaces) 1 (0 ∷ []) l q → FitLegs s → i < legCount s → FitLegs l × (viewLegs l ≡ set (viewLegs s) i (markUnsent (legAt s i)))
   marked-unsent a f h =
       let z = entry-size s i f h in
       let k = entry-fit s i f h in
-      changed-here i 52 (markUnsent (legAt s i)) a f h (lit≤ tt) (unsent-fits (entryAt s i) z k) (unsent-shows (entryAt s i) z k ∙ ap markUnsent (entry-shows s i f h))
+      changed-here i atReplaces (markUnsent (legAt s i)) a f h (lit≤ tt) (unsent-fits (entryAt s i) z k) (unsent-shows (entryAt s i) z k ∙ ap markUnsent (entry-shows s i f h))
 
   pub set-again : (t : Bool) (v n : ℕ) → Wrote s (i * legWidth + atHasNext) 13 ((one t ∷ []) ++ digits 8 v ++ digits 4 n) l q → FitLegs s → i < legCount s
       → (t ≡ false → v ≡ 0) → Fits w64 v → Fits w32 n → FitLegs l × (viewLegs l ≡ set (viewLegs s) i (again (if t then some v else none) n (legAt s i)))
   set-again t v n a f h b x y =
       let z = entry-size s i f h in
       let k = entry-fit s i f h in
-      changed-here i 16 (again (if t then some v else none) n (legAt s i)) a f h (lit≤ tt) (again-fits (entryAt s i) z k t v n b)
+      changed-here i atHasNext (again (if t then some v else none) n (legAt s i)) a f h (lit≤ tt) (again-fits (entryAt s i) z k t v n b)
       (again-shows (entryAt s i) z k t v n x y ∙ ap (again (if t then some v else none) n) (entry-shows s i f h))

@@ -16,7 +16,7 @@ use Rattle.lib_laws.specs.Store.{store-zeros, same-view}
 use Rattle.lib_laws.specs.Same.{cell-bytes, num-cells, cells-same, with-bytes}
 use Rattle.legs_entry.specs.View.{answerFrom, kindFrom, legOf, FitLegCell, viewLegs, FitLegs, fit-zeros}
 use Rattle.links_entry.specs.Layout.{atPathState}
-use Rattle.legs_entry.specs.Layout.{atLegCount, legCap, legWidth, legsLen, atEpoch, legWs}
+use Rattle.legs_entry.specs.Layout.{atLegCount, legCap, legWidth, legsLen, atEpoch, legWs, atNextResend, atAnswer, atSent, atAnswerSent, atMsg2, atReplaces, atMsg2Bytes, atDigest, atLease}
 
 -- ---- new memory
 pub fit-new : FitLegs (replicate legsLen 0)
@@ -29,19 +29,19 @@ shows-none = ap (λ (n : ℕ). map legOf (take n (chunks legWidth legCap (replic
 -- the cells that tell dials and answers apart, and those of an answer
 module _ (c d : Bytes) where
   pub record Alike : Type 0 where
-    pub answer : take 1 (drop 33 c) ≡ take 1 (drop 33 d)
-    pub «answer_sent» : take 1 (drop 51 c) ≡ take 1 (drop 51 d)
-    pub replaces : take 1 (drop 52 c) ≡ take 1 (drop 52 d)
+    pub answer : take 1 (drop atAnswer c) ≡ take 1 (drop atAnswer d)
+    pub «answer_sent» : take 1 (drop atAnswerSent c) ≡ take 1 (drop atAnswerSent d)
+    pub replaces : take 1 (drop atReplaces c) ≡ take 1 (drop atReplaces d)
     pub epoch : take 8 (drop atPathState c) ≡ take 8 (drop atPathState d)
-    pub digest : take 32 (drop 61 c) ≡ take 32 (drop 61 d)
-    pub len2 : take 1 (drop 222 c) ≡ take 1 (drop 222 d)
-    pub msg2 : take 128 (drop 223 c) ≡ take 128 (drop 223 d)
+    pub digest : take 32 (drop atDigest c) ≡ take 32 (drop atDigest d)
+    pub len2 : take 1 (drop atMsg2 c) ≡ take 1 (drop atMsg2 d)
+    pub msg2 : take 128 (drop atMsg2Bytes c) ≡ take 128 (drop atMsg2Bytes d)
 
 module _ (c d : Bytes) (f : FitLegCell c) (g : FitLegCell d) (h : length c ≡ legWidth) (k : length d ≡ legWidth) (a : All IsByte c) (b : All IsByte d) where
   kinds-alike : kindFrom (cuts 0 0 legWs c) ≡ kindFrom (cuts 0 0 legWs d) → Alike c d
-  kinds-alike e = go (flagOf (take 1 (drop 33 c))) (flagOf (take 1 (drop 33 d))) refl refl e
+  kinds-alike e = go (flagOf (take 1 (drop atAnswer c))) (flagOf (take 1 (drop atAnswer d))) refl refl e
     where
-      go : (x y : Bool) → flagOf (take 1 (drop 33 c)) ≡ x → flagOf (take 1 (drop 33 d)) ≡ y
+      go : (x y : Bool) → flagOf (take 1 (drop atAnswer c)) ≡ x → flagOf (take 1 (drop atAnswer d)) ≡ y
           → (if x then Kind.Answer (answerFrom (cuts 0 0 legWs c)) else Kind.Dial) ≡ (if y then Kind.Answer (answerFrom (cuts 0 0 legWs d)) else Kind.Dial) → Alike c d
       go true true p q z =
           let w : answerFrom (cuts 0 0 legWs c) ≡ answerFrom (cuts 0 0 legWs d) = cc in
@@ -74,7 +74,7 @@ module _ (c d : Bytes) (f : FitLegCell c) (g : FitLegCell d) (h : length c ≡ l
   unfolding sum
   entry-same e =
       let m = kinds-alike (ap (λ (g : Leg). g .kind) e) in
-      let n = option-num-same (f .next) (g .next) (cell-bytes 8 17 c a) (cell-bytes 8 17 d b) (ap (λ (g : Leg). g .next) e) in
+      let n = option-num-same (f .next) (g .next) (cell-bytes 8 atNextResend c a) (cell-bytes 8 atNextResend d b) (ap (λ (g : Leg). g .next) e) in
       let p = option-bytes-same (f .peer) (g .peer) (ap (λ (g : Leg). g .peer) e) in
       let t = text-same (f .msg1) (g .msg1) (ap (λ (g : Leg). g .msg1) e) in
       cells-same 0 legWs c d h k
@@ -83,8 +83,8 @@ module _ (c d : Bytes) (f : FitLegCell c) (g : FitLegCell d) (h : length c ≡ l
         num-cells 8 8 c d (omega arith) (omega arith) a b (ap (λ (g : Leg). g .deadline) e),
         n .0,
         n .1,
-        num-cells 4 25 c d (omega arith) (omega arith) a b (ap (λ (g : Leg). g .sent) e),
-        num-cells 4 29 c d (omega arith) (omega arith) a b (ap (λ (g : Leg). g .lease) e),
+        num-cells 4 atSent c d (omega arith) (omega arith) a b (ap (λ (g : Leg). g .sent) e),
+        num-cells 4 atLease c d (omega arith) (omega arith) a b (ap (λ (g : Leg). g .lease) e),
         m .answer,
         p .0,
         p .1,

@@ -1,4 +1,4 @@
-// Handshake legs in lent memory: 32 entries of 351 bytes in the order of their links, and then their count.
+// Handshake legs in lent memory: up to 32 in the order of their links, and then their count.
 pub mod at;
 pub mod change;
 pub mod leg;

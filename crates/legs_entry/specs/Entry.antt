@@ -147,77 +147,12 @@ fit-here s i f h = subst FitCells (sym (cells-here s i f h)) (fit-at legOf i [] 
 pub leg-here : (s : Bytes) (i : ℕ) → FitLegs s → i < legCount s → legFrom (cuts (i * legWidth) 0 legWs s) ≡ legAt s i
 leg-here s i f h = ap legFrom (cells-here s i f h) ∙ shown legOf i [] noLeg (f .kept) h
 
--- l was read at a
-pub record Loaded (l : leg.Leg) (a : ℕ) (s : Bytes) : Type 0 where
-  pub link : l .link .0 ≡ num (take 8 (drop a s))
-  pub deadline : l .deadline ≡ num (take 8 (drop (a + atDeadline) s))
-  pub «has_next» : l .«has_next» ≡ flagOf (take 1 (drop (a + atHasNext) s))
-  pub next : l .next ≡ num (take 8 (drop (a + atNextResend) s))
-  pub sent : l .sent ≡ num (take 4 (drop (a + atSent) s))
-  pub lease : l .lease ≡ num (take 4 (drop (a + atLease) s))
-  pub answer : l .answer ≡ flagOf (take 1 (drop (a + atAnswer) s))
-  pub «has_peer» : l .«has_peer» ≡ flagOf (take 1 (drop (a + atHasPeer) s))
-  pub peer : l .peer .0 ≡ take 16 (drop (a + atPeer) s)
-  pub «answer_sent» : l .«answer_sent» ≡ flagOf (take 1 (drop (a + atAnswerSent) s))
-  pub replaces : l .replaces ≡ flagOf (take 1 (drop (a + atReplaces) s))
-  pub epoch : l .epoch ≡ num (take 8 (drop (a + atEpoch) s))
-  pub digest : l .digest .0 ≡ take 32 (drop (a + atDigest) s)
-  pub fit1 : FitMessage (l .msg1)
-  pub msg1 : viewMessage (l .msg1) ≡ messageOf (take messageWidth (drop (a + atMsg1) s))
-  pub fit2 : FitMessage (l .msg2)
-  pub msg2 : viewMessage (l .msg2) ≡ messageOf (take messageWidth (drop (a + atMsg2) s))
-
--- where the flag is not set
-clear : {f s : Bytes} {w : ℕ} {b : Bool} → Optional w f s → b ≡ flagOf f → b ≡ false → s ≡ replicate w 0
-clear o e q = o .blank (sym e ∙ q)
-
 pub num-zeros : num (replicate 8 0) ≡ 0
 unfolding more
 num-zeros = refl
 
 one-more : (a o : ℕ) → a + o + 1 ≡ a + (o + 1)
 one-more a o = omega arith
-
--- a message at a place, as a length and its bytes
-message-is : (s : Bytes) (a o : ℕ) → messageOf (take messageWidth (drop (a + o) s)) ≡ textOf (take 1 (drop (a + o) s)) (take 128 (drop (a + (o + 1)) s))
-message-is s a o = message-parts s (a + o) ∙ ap (λ (k : ℕ). textOf (take 1 (drop (a + o) s)) (take 128 (drop k s))) (one-more a o)
-
--- an empty message is blank
-blank-message : {m : message.Message} → FitMessage m → viewMessage m ≡ [] → (m .len ≡ 0) × (m .bytes ≡ replicate 128 0)
-blank-message {m} f e =
-    let z : m .len ≡ 0 = sym (kept-length (f .kept)) ∙ ap length e in
-    (z, rw z at (f .kept .rest))
-
-blank-loaded : (l : leg.Leg) (s : Bytes) (i : ℕ) → Loaded l (i * legWidth) s → BlankCells (cuts (i * legWidth) 0 legWs s) → BlankLeg l
-unfolding more
-blank-loaded l s i r b =
-    let m = blank-message (r .fit2) (r .msg2 ∙ message-is s (i * legWidth) atMsg2 ∙ rw (b .len2)) in
-    record {
-      «answer_sent» = r .«answer_sent» ∙ rw (b .«answer_sent»);
-      replaces = r .replaces ∙ rw (b .replaces);
-      epoch = r .epoch ∙ rw (b .epoch);
-      digest = r .digest ∙ b .digest;
-      len2 = m .0;
-      msg2 = m .1;
-    }
-
-pub leg-loaded : (s : Bytes) (i : ℕ) (l : leg.Leg) → FitLegs s → i < legCount s → Loaded l (i * legWidth) s → FitLeg l × (viewLeg l ≡ legAt s i)
-leg-loaded s i l f h r =
-    let z : i * legWidth + 0 ≡ i * legWidth = add-zero (i * legWidth) in
-    let k = fit-here s i f h in
-    let v : viewLeg l ≡ legFrom (cuts (i * legWidth) 0 legWs s) =
-    rw (r .link, r .deadline, r .«has_next», r .next, r .sent, r .lease, r .answer, r .«has_peer», r .peer, r .«answer_sent», r .replaces, r .epoch, r .digest, r .msg1, r .msg2, message-is s (i * legWidth) atMsg1, message-is s (i * legWidth) atMsg2, z) in (
-      record {
-        peer = rw (r .peer) (k .peer .size);
-        digest = rw (r .digest) (length-take-le 32 (drop (i * legWidth + atDigest) s) (rw length-drop (omega arith)));
-        msg1 = r .fit1;
-        msg2 = r .fit2;
-        untimed = λ e. r .next ∙ ap num (clear (k .next) (r .«has_next») e) ∙ num-zeros;
-        unnamed = λ e. r .peer ∙ clear (k .peer) (r .«has_peer») e;
-        dial = λ e. blank-loaded l s i r (k .dial (sym (r .answer) ∙ e));
-      },
-      v ∙ leg-here s i f h,
-    )
 
 -- a message's cell is canonical
 module _ {s : Bytes} {i : ℕ} (f : FitLegs s) (h : i < legCount s) where
@@ -233,7 +168,7 @@ module _ {s : Bytes} {i : ℕ} (f : FitLegs s) (h : i < legCount s) where
           ∙ ap (λ (k : ℕ). take 128 (drop k s)) (one-more (i * legWidth) o)
 
   pub msg1-cell : MessageCell (take messageWidth (drop (i * legWidth + atMsg1) s))
-  msg1-cell = cell-at 93 (lit≤ tt) (fit-here s i f h .msg1)
+  msg1-cell = cell-at atMsg1 (lit≤ tt) (fit-here s i f h .msg1)
 
   pub msg2-cell : MessageCell (take messageWidth (drop (i * legWidth + atMsg2) s))
-  msg2-cell = cell-at 222 (lit≤ tt) (fit-here s i f h .msg2)
+  msg2-cell = cell-at atMsg2 (lit≤ tt) (fit-here s i f h .msg2)

@@ -141,7 +141,7 @@ pub fn answer_sent_at(s: &[u8], i: usize) -> bool
     get_flag(s, i * LEG_WIDTH + ANSWER_SENT)
 }
 
-// The length of msg1, which stands at i * 351 + 94.
+// The length of msg1, whose bytes stand at MSG1_BYTES.
 pub fn msg1_len_at(s: &[u8], i: usize) -> usize
     requires { ⌜ FitLegs (now s) ⌝ }
     requires { ⌜ i < legCount (now s) ⌝ }
@@ -150,7 +150,7 @@ pub fn msg1_len_at(s: &[u8], i: usize) -> usize
     get_len(s, i * LEG_WIDTH + MSG1)
 }
 
-// The length of msg2, which stands at i * 351 + 223; 0 for a dial.
+// The length of msg2, whose bytes stand at MSG2_BYTES; 0 for a dial.
 pub fn msg2_len_at(s: &[u8], i: usize) -> usize
     requires { ⌜ FitLegs (now s) ⌝ }
     requires { ⌜ i < legCount (now s) ⌝ }

@@ -1,4 +1,4 @@
-// A handshake leg: by value, and in its entry of 351 bytes in lent memory, read and written.
+// A handshake leg: by value, and in its entry in lent memory, read and written.
 pub mod at;
 pub mod cell;
 pub mod entry;

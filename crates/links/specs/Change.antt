@@ -30,7 +30,7 @@ use Rattle.node_addr.specs.declared.Pair as pair
 use Rattle.links_entry.specs.View.{viewPaths, FitPaths, dirOf, dirCode, linkFrom, linkOf, FitFields, FitLink, viewLinks, FitLinks, linkCount, noLink, withPaths, withReleased, markedAt, cutAt}
 use Rattle.links_entry.specs.Here.{span, span-is, paths-show}
 use Rattle.links_entry.specs.Zeros.{paths-zeros}
-use Rattle.links_entry.specs.Layout.{atHolder, atPaths, atReleased, linkWidth, pathsLen, linkWs}
+use Rattle.links_entry.specs.Layout.{atHolder, atPaths, atReleased, linkWidth, pathsLen, linkWs, openedBlank}
 
 -- ---- codes
 dir-shows : (d : Dir) → dirOf (dirCode d) ≡ d
@@ -84,41 +84,41 @@ place-left {s} {l} {i} x f g e h =
 
 -- ---- fields of a link
 module _ (c bs : Bytes) (z : length c ≡ linkWidth) where
-  holder-cuts : length bs ≡ 17 → cuts 0 0 linkWs (splice c 62 bs) ≡ set (cuts 0 0 linkWs c) 3 bs
+  holder-cuts : length bs ≡ 17 → cuts 0 0 linkWs (splice c atHolder bs) ≡ set (cuts 0 0 linkWs c) 3 bs
   unfolding sum
-  holder-cuts e = cuts-set 0 0 linkWs c 3 62 bs (lit< tt) (omega arith) e refl
+  holder-cuts e = cuts-set 0 0 linkWs c 3 atHolder bs (lit< tt) (omega arith) e refl
 
-  released-cuts : length bs ≡ 1 → cuts 0 0 linkWs (splice c 79 bs) ≡ set (cuts 0 0 linkWs c) 4 bs
+  released-cuts : length bs ≡ 1 → cuts 0 0 linkWs (splice c atReleased bs) ≡ set (cuts 0 0 linkWs c) 4 bs
   unfolding sum
-  released-cuts e = cuts-set 0 0 linkWs c 4 79 bs (lit< tt) (omega arith) e refl
+  released-cuts e = cuts-set 0 0 linkWs c 4 atReleased bs (lit< tt) (omega arith) e refl
 
-  paths-cuts : length bs ≡ pathsLen → cuts 0 0 linkWs (splice c 80 bs) ≡ set (cuts 0 0 linkWs c) 5 bs
+  paths-cuts : length bs ≡ pathsLen → cuts 0 0 linkWs (splice c atPaths bs) ≡ set (cuts 0 0 linkWs c) 5 bs
   unfolding sum
-  paths-cuts e = cuts-set 0 0 linkWs c 5 80 bs (lit< tt) (omega arith) e refl
+  paths-cuts e = cuts-set 0 0 linkWs c 5 atPaths bs (lit< tt) (omega arith) e refl
 
 -- held by a peer
 module _ (peer c : Bytes) (e : length peer ≡ 16) (z : length c ≡ linkWidth) where
-  holder-keeps : FitLink c → FitLink (splice c 62 (0 ∷ peer))
+  holder-keeps : FitLink c → FitLink (splice c atHolder (0 ∷ peer))
   holder-keeps f =
       subst FitFields (sym (holder-cuts c (0 ∷ peer) z (ap suc e)))
       (record { setup = f .setup; dir = f .dir; holder = record { flag = record { size = refl; low = lit< tt }; blank = λ q. cc }; released = f .released; paths = f .paths })
 
-  holder-put : linkOf (splice c 62 (0 ∷ peer)) ≡ heldBy (APeer peer) (linkOf c)
+  holder-put : linkOf (splice c atHolder (0 ∷ peer)) ≡ heldBy (APeer peer) (linkOf c)
   holder-put = ap linkFrom (holder-cuts c (0 ∷ peer) z (ap suc e)) ∙ rw (take-all 16 peer (omega arith))
 
 pub held-is : {s l : Bytes} {i q : ℕ} {peer : Bytes} → Wrote s (i * linkWidth + atHolder) 17 (0 ∷ peer) l q → FitLinks s → i < linkCount s → length peer ≡ 16
     → FitLinks l × (viewLinks l ≡ set (viewLinks s) i (heldBy (APeer peer) (getD (viewLinks s) i noLink)))
 held-is {i = i} {peer = peer} w f h e =
-    changed-is linkOf (heldBy (APeer peer)) i 62 noLink w f h (lit≤ tt) (λ c z. holder-keeps peer c e z) (λ c z. holder-put peer c e z)
+    changed-is linkOf (heldBy (APeer peer)) i atHolder noLink w f h (lit≤ tt) (λ c z. holder-keeps peer c e z) (λ c z. holder-put peer c e z)
 
 -- the released flag
 module _ (b : Bool) (c : Bytes) (z : length c ≡ linkWidth) where
-  released-keeps : FitLink c → FitLink (splice c 79 (one b ∷ []))
+  released-keeps : FitLink c → FitLink (splice c atReleased (one b ∷ []))
   released-keeps f =
       subst FitFields (sym (released-cuts c (one b ∷ []) z refl))
       (record { setup = f .setup; dir = f .dir; holder = f .holder; released = flag-code b; paths = f .paths })
 
-  released-put : linkOf (splice c 79 (one b ∷ [])) ≡ withReleased b (linkOf c)
+  released-put : linkOf (splice c atReleased (one b ∷ [])) ≡ withReleased b (linkOf c)
   released-put = ap linkFrom (released-cuts c (one b ∷ []) z refl) ∙ rw (flag-shows b)
 
 pub marked-is : {s l : Bytes} {i q k : ℕ} (p : Pair) {x y b : Bool} → Wrote s (i * linkWidth + atReleased) 1 (k ∷ []) l q → FitLinks s → i < linkCount s
@@ -126,17 +126,17 @@ pub marked-is : {s l : Bytes} {i q k : ℕ} (p : Pair) {x y b : Bool} → Wrote 
     → FitLinks l × (viewLinks l ≡ set (viewLinks s) i (markedAt p (getD (viewLinks s) i noLink)))
 marked-is {s} {l} {i} {q} {k} p {x} {y} {b} w f h ek eb ex ey =
     let m : b ≡ (getD (viewLinks s) i noLink .released || samePair p (getD (viewLinks s) i noLink .setup)) = rw (← ex, ← ey) eb in
-    let g = changed-is linkOf (withReleased b) i 79 noLink (subst (λ (v : ℕ). Wrote s (i * linkWidth + atReleased) 1 (v ∷ []) l q) ek w) f h (lit≤ tt) (released-keeps b) (released-put b) in
+    let g = changed-is linkOf (withReleased b) i atReleased noLink (subst (λ (v : ℕ). Wrote s (i * linkWidth + atReleased) 1 (v ∷ []) l q) ek w) f h (lit≤ tt) (released-keeps b) (released-put b) in
     (g .0, g .1 ∙ ap (λ (d : Bool). set (viewLinks s) i (withReleased d (getD (viewLinks s) i noLink))) m)
 
 -- the paths
 module _ (bs c : Bytes) (k : FitPaths bs) (z : length c ≡ linkWidth) where
-  paths-keeps : FitLink c → FitLink (splice c 80 bs)
+  paths-keeps : FitLink c → FitLink (splice c atPaths bs)
   paths-keeps f =
       subst FitFields (sym (paths-cuts c bs z (k .size)))
       (record { setup = f .setup; dir = f .dir; holder = f .holder; released = f .released; paths = k })
 
-  paths-put : linkOf (splice c 80 bs) ≡ withPaths (viewPaths bs) (linkOf c)
+  paths-put : linkOf (splice c atPaths bs) ≡ withPaths (viewPaths bs) (linkOf c)
   paths-put = ap linkFrom (paths-cuts c bs z (k .size))
 
 -- they were lent and put back
@@ -146,7 +146,7 @@ pub paths-are : {s ys : Bytes} {i : ℕ} (g : List PathRec → List PathRec) →
 paths-are {s} {ys} {i} g f h y q =
     let w : Wrote s (i * linkWidth + atPaths) pathsLen ys (take (i * linkWidth + atPaths) s ++ (ys ++ drop (span i) (drop (i * linkWidth + atPaths) s))) (i * linkWidth + atPaths + pathsLen) =
     record { end = refl; size = y .size; room = omega arith; is = put-is (i * linkWidth + atPaths) (span i) s ys (y .size ∙ sym (span-is i)) } in
-    let r = changed-is linkOf (withPaths (viewPaths ys)) i 80 noLink w f h (lit≤ tt) (λ c z. paths-keeps ys c y z) (λ c z. paths-put ys c y z) in
+    let r = changed-is linkOf (withPaths (viewPaths ys)) i atPaths noLink w f h (lit≤ tt) (λ c z. paths-keeps ys c y z) (λ c z. paths-put ys c y z) in
     let v : viewPaths ys ≡ g (getD (viewLinks s) i noLink .paths) = q ∙ ap g (paths-show f h) in
     (r .0, r .1 ∙ ap (λ (x : List PathRec). set (viewLinks s) i (withPaths x (getD (viewLinks s) i noLink))) v)
 
@@ -161,7 +161,7 @@ abbrev pub newFields : ℕ → pair.Pair → ℕ → List Bytes
 newFields n p k = digits 8 n ∷ pairCell p ∷ (k ∷ []) ∷ (1 ∷ replicate 16 0) ∷ (0 ∷ []) ∷ replicate pathsLen 0 ∷ []
 
 abbrev pub newBytes : ℕ → pair.Pair → ℕ → Bytes
-newBytes n p k = digits 8 n ++ pairCell p ++ (k ∷ []) ++ (1 ∷ []) ++ replicate 234 0
+newBytes n p k = digits 8 n ++ pairCell p ++ (k ∷ []) ++ (1 ∷ []) ++ replicate openedBlank 0
 
 module _ (n : ℕ) {p : pair.Pair} (d : Dir) (f : FitPair p) where
   new-joined : newBytes n p (dirCode d) ≡ joined (newFields n p (dirCode d))

@@ -17,7 +17,7 @@ use Rattle.lib_laws.specs.Same.{cell-size, cell-bytes, cells-same, with-bytes}
 use Rattle.node_addr.specs.Place.{pair-cell-same}
 use Rattle.links_entry.specs.View.{stateOf, pathOf, FitPath, viewPaths, FitPaths, dirOf, holderOf, linkOf, FitHolder, FitLink, viewLinks, FitLinks}
 use Rattle.node_addr.specs.Layout.{pairWidth}
-use Rattle.links_entry.specs.Layout.{atPathState, linkWidth, pathWidth, pathsLen, atSetup, linkWs}
+use Rattle.links_entry.specs.Layout.{atPathState, linkWidth, pathWidth, pathsLen, atSetup, linkWs, atReleased, atHolder, atDir, atPaths}
 
 -- ---- codes
 state-apart : (x y : ℕ) → x < 3 → y < 3 → stateOf x ≡ stateOf y → x ≡ y
@@ -86,14 +86,14 @@ module _ (c d : Bytes) (a : (FitLink c × All IsByte c) × (length c ≡ linkWid
       (cell-size 8 0 c (omega arith) ∙ sym (cell-size 8 0 d (omega arith))) (ap (λ (r : LinkRec). r .no) e) in
       let p : take pairWidth (drop 8 c) ≡ take pairWidth (drop 8 d) =
       pair-cell-same (a .0 .0 .setup) (b .0 .0 .setup) (cell-bytes pairWidth atSetup c (a .0 .1)) (cell-bytes pairWidth atSetup d (b .0 .1)) (ap (λ (r : LinkRec). r .setup) e) in
-      let q : take 1 (drop 61 c) ≡ take 1 (drop 61 d) =
+      let q : take 1 (drop atDir c) ≡ take 1 (drop atDir d) =
       byte-same (a .0 .0 .dir) (b .0 .0 .dir)
-      (dir-apart (byteOf (take 1 (drop 61 c))) (byteOf (take 1 (drop 61 d))) (a .0 .0 .dir .low) (b .0 .0 .dir .low) (ap (λ (r : LinkRec). r .dir) e)) in
-      let h : take 17 (drop 62 c) ≡ take 17 (drop 62 d) =
-      holder-apart (take 17 (drop 62 c)) (take 17 (drop 62 d)) (a .0 .0 .holder) (b .0 .0 .holder) (cell-size 17 62 c (omega arith)) (cell-size 17 62 d (omega arith)) (ap (λ (r : LinkRec). r .holder) e) in
-      let f : take 1 (drop 79 c) ≡ take 1 (drop 79 d) = flag-same (a .0 .0 .released) (b .0 .0 .released) (ap (λ (r : LinkRec). r .released) e) in
-      let s : take pathsLen (drop 80 c) ≡ take pathsLen (drop 80 d) =
-      paths-same (a .0 .0 .paths) (b .0 .0 .paths) (cell-bytes pathsLen 80 c (a .0 .1)) (cell-bytes pathsLen 80 d (b .0 .1)) (ap (λ (r : LinkRec). r .paths) e) in
+      (dir-apart (byteOf (take 1 (drop atDir c))) (byteOf (take 1 (drop atDir d))) (a .0 .0 .dir .low) (b .0 .0 .dir .low) (ap (λ (r : LinkRec). r .dir) e)) in
+      let h : take 17 (drop atHolder c) ≡ take 17 (drop atHolder d) =
+      holder-apart (take 17 (drop atHolder c)) (take 17 (drop atHolder d)) (a .0 .0 .holder) (b .0 .0 .holder) (cell-size 17 atHolder c (omega arith)) (cell-size 17 atHolder d (omega arith)) (ap (λ (r : LinkRec). r .holder) e) in
+      let f : take 1 (drop atReleased c) ≡ take 1 (drop atReleased d) = flag-same (a .0 .0 .released) (b .0 .0 .released) (ap (λ (r : LinkRec). r .released) e) in
+      let s : take pathsLen (drop atPaths c) ≡ take pathsLen (drop atPaths d) =
+      paths-same (a .0 .0 .paths) (b .0 .0 .paths) (cell-bytes pathsLen atPaths c (a .0 .1)) (cell-bytes pathsLen atPaths d (b .0 .1)) (ap (λ (r : LinkRec). r .paths) e) in
       rw (n, p, q, h, f, s)
 
   link-apart : c ≡ d

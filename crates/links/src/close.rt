@@ -2,6 +2,7 @@
 use crate::record::Closes;
 use crate::write::release_at;
 use crate::write::remove_link;
+use links_entry::layout::ADDRESS_CAP;
 use links_entry::read::find_link;
 use links_entry::read::get_link;
 use links_entry::read::in_use;
@@ -30,7 +31,7 @@ pub fn no_closes() -> Closes
     let b = blank_pair();
     Closes {
         len: 0,
-        pairs: [b; 5],
+        pairs: [b; ADDRESS_CAP],
     }
 }
 

@@ -1,4 +1,4 @@
-// Link records in lent memory: 32 of 297 bytes in the order of their numbers, and their count.
+// Link records in lent memory: up to 32 in the order of their numbers, and their count.
 pub mod close;
 pub mod read;
 pub mod record;

@@ -34,6 +34,9 @@ atDir = 61
 abbrev pub atHolder : ℕ
 atHolder = 62
 
+abbrev pub atHolderPeer : ℕ
+atHolderPeer = 63
+
 abbrev pub atReleased : ℕ
 atReleased = 79
 
@@ -45,6 +48,10 @@ atLinkPathCount = 296
 
 abbrev pub linkWidth : ℕ
 linkWidth = 297
+
+-- the end of a new link's entry, which is zeros
+abbrev pub openedBlank : ℕ
+openedBlank = 234
 
 -- ---- the region: 32 entries, and their count
 abbrev pub linkCap : ℕ
@@ -71,3 +78,6 @@ link-count = refl
 
 pub link-path-count : atPaths + atPathCount ≡ atLinkPathCount
 link-path-count = refl
+
+pub opened-blank : atHolderPeer + openedBlank ≡ linkWidth
+opened-blank = refl

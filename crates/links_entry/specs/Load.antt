@@ -15,7 +15,7 @@ use Rattle.lib_laws.specs.Fields.{cuts}
 use Rattle.node_addr.specs.View.{viewPair, FitPair}
 use Rattle.node_addr.specs.Place.{pairOf}
 use Rattle.node_addr.specs.Layout.{pairWidth}
-use Rattle.links_entry.specs.Layout.{linkWs, atDir, atLinkPathCount, atPathCount, atPaths, atReleased, linkWidth, pathsLen}
+use Rattle.links_entry.specs.Layout.{linkWs, atDir, atLinkPathCount, atPathCount, atPaths, atReleased, linkWidth, pathsLen, atHolder, atHolderPeer, pathCap}
 use Rattle.links_entry.specs.View.{dirOf, holderOf, linkFrom, viewPaths, pathCount, viewLinks, FitLinks, linkCount, noLink, viewDir, viewPath, FitPathRec, blankPath, viewLink, FitRec}
 use Rattle.links_entry.specs.Here.{link-here, byte-here, byte-in}
 use Rattle.links_entry.specs.declared.record.LinkRec as linkrec
@@ -25,14 +25,14 @@ pub record Loaded (r : linkrec.LinkRec) (a k : ℕ) (s : Bytes) : Type 0 where
   pub no : r .no .0 ≡ num (take 8 (drop a s))
   pub fit : FitPair (r .setup)
   pub setup : viewPair (r .setup) ≡ pairOf (take pairWidth (drop (a + 8) s))
-  pub dir : viewDir (r .dir) ≡ dirOf (getD s (a + 61) 0)
-  pub leg : r .leg ≡ eqb (getD s (a + 62) 0) 1
-  pub peer : r .peer .0 ≡ take 16 (drop (a + 63) s)
-  pub released : r .released ≡ eqb (getD s (a + 79) 0) 1
-  pub count : r .count ≡ getD s (a + 296) 0
+  pub dir : viewDir (r .dir) ≡ dirOf (getD s (a + atDir) 0)
+  pub leg : r .leg ≡ eqb (getD s (a + atHolder) 0) 1
+  pub peer : r .peer .0 ≡ take 16 (drop (a + atHolderPeer) s)
+  pub released : r .released ≡ eqb (getD s (a + atReleased) 0) 1
+  pub count : r .count ≡ getD s (a + atLinkPathCount) 0
   pub size : k ≡ pathsLen
-  pub kept : Kept FitPathRec blankPath 4 (pathCount (take k (drop (a + 80) s))) (r .paths)
-  pub paths : map viewPath (take (pathCount (take k (drop (a + 80) s))) (r .paths)) ≡ viewPaths (take k (drop (a + 80) s))
+  pub kept : Kept FitPathRec blankPath pathCap (pathCount (take k (drop (a + atPaths) s))) (r .paths)
+  pub paths : map viewPath (take (pathCount (take k (drop (a + atPaths) s))) (r .paths)) ≡ viewPaths (take k (drop (a + atPaths) s))
 
 drop-taken : (m n : ℕ) (u : Bytes) → drop 1 (take (suc n) u) ≡ take n (drop 1 u)
 drop-taken m n [] = empty-take n
@@ -42,13 +42,13 @@ drop-taken m n [] = empty-take n
     empty-take (suc n) = refl
 drop-taken m n (x ∷ u) = refl
 
-holder-loaded : (a : ℕ) (s : Bytes) → holderOf (take 17 (drop (a + 62) s)) ≡ (if eqb (getD s (a + 62) 0) 1 then ALeg else APeer (take 16 (drop (a + 63) s)))
+holder-loaded : (a : ℕ) (s : Bytes) → holderOf (take 17 (drop (a + atHolder) s)) ≡ (if eqb (getD s (a + atHolder) 0) 1 then ALeg else APeer (take 16 (drop (a + atHolderPeer) s)))
 holder-loaded a s =
-    let x : take 1 (take 17 (drop (a + 62) s)) ≡ take 1 (drop (a + 62) s) = take-take 1 17 (drop (a + 62) s) (lit≤ tt) in
-    let y : a + 62 + 1 ≡ a + 63 = omega arith in
-    let z : take 16 (drop 1 (take 17 (drop (a + 62) s))) ≡ take 16 (drop (a + 63) s) =
-    ap (λ (u : Bytes). take 16 u) (drop-taken 0 16 (drop (a + 62) s)) ∙ take-take 16 16 (drop 1 (drop (a + 62) s)) (lit≤ tt) ∙ rw (drop-drop 1 (a + 62) s, y) in
-    rw (x, z, byte-here s (a + 62))
+    let x : take 1 (take 17 (drop (a + atHolder) s)) ≡ take 1 (drop (a + atHolder) s) = take-take 1 17 (drop (a + atHolder) s) (lit≤ tt) in
+    let y : a + atHolder + 1 ≡ a + atHolderPeer = omega arith in
+    let z : take 16 (drop 1 (take 17 (drop (a + atHolder) s))) ≡ take 16 (drop (a + atHolderPeer) s) =
+    ap (λ (u : Bytes). take 16 u) (drop-taken 0 16 (drop (a + atHolder) s)) ∙ take-take 16 16 (drop 1 (drop (a + atHolder) s)) (lit≤ tt) ∙ rw (drop-drop 1 (a + atHolder) s, y) in
+    rw (x, z, byte-here s (a + atHolder))
 
 pub link-loaded : {s : Bytes} {i k : ℕ} (r : linkrec.LinkRec) → FitLinks s → i < linkCount s → Loaded r (i * linkWidth) k s → FitRec r × (viewLink r ≡ getD (viewLinks s) i noLink)
 link-loaded {s} {i} {k} r f h l =
@@ -62,7 +62,7 @@ link-loaded {s} {i} {k} r f h l =
     rw (l .no, l .setup, l .dir, l .leg, l .peer, l .released, v, z, holder-loaded (i * linkWidth) s, ← byte-here s (i * linkWidth + atDir), ← byte-here s (i * linkWidth + atReleased)) in (
       record {
         setup = l .fit;
-        peer = rw (l .peer) (length-take-le 16 (drop (i * linkWidth + 63) s) (rw length-drop (omega arith)));
+        peer = rw (l .peer) (length-take-le 16 (drop (i * linkWidth + atHolderPeer) s) (rw length-drop (omega arith)));
         paths = rw n at (l .kept);
       },
       w ∙ link-here f h,

@@ -14,6 +14,9 @@ pub const PATH_COUNT: usize = PATH_CAP * PATH_WIDTH;
 
 pub const PATHS_LEN: usize = PATH_COUNT + 1;
 
+// The addresses of a link: its setup and its paths.
+pub const ADDRESS_CAP: usize = 1 + PATH_CAP;
+
 // The byte of a path's state that is probing, and of the count of paths where no more fit.
 pub const PROBING: u8 = 2;
 

@@ -1,4 +1,4 @@
-// A link: by value, and in its entry of 297 bytes in lent memory, read; and its paths there.
+// A link: by value, and in its entry in lent memory, read; and its paths there.
 pub mod layout;
 pub mod paths;
 pub mod read;

@@ -1,4 +1,4 @@
-// A link's paths in lent memory: 4 of 54 bytes in the order they came, and their count.
+// A link's paths in lent memory: up to four in the order they came, and their count.
 use crate::layout::PATH_CAP;
 use crate::layout::PATH_COUNT;
 use crate::layout::PATH_STATE;

@@ -1,7 +1,8 @@
-// The fields of outputs, in bytes. Each output begins with a frame: the length of what follows, the version, the kind.
+// The fields of outputs, in bytes, behind the frame.
 use lib_bytes::layout::U16;
 use lib_bytes::layout::U32;
 use lib_bytes::layout::U64;
+use node_addr::layout::FRAME_LEN;
 use node_addr::layout::NODE_LEN;
 use node_addr::layout::PAIR_ADDR;
 

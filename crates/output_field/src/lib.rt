@@ -2,7 +2,6 @@
 pub mod layout;
 
 use crate::layout::FRAMED;
-use crate::layout::VERSION;
 use lib_bytes::layout::U16;
 use lib_bytes::layout::U32;
 use lib_bytes::write::put_48;
@@ -10,6 +9,7 @@ use lib_bytes::write::put_be;
 use lib_bytes::write::put_byte;
 use lib_bytes::write::put_run;
 use node_addr::Pair;
+use node_addr::layout::VERSION;
 use output_code::flag_code;
 ghost use Prim.Native.Nat.{_+_, _≤_, _<_};
 ghost use lib.ListN.{length, take, drop};

@@ -1,4 +1,4 @@
-// The head region, 98 bytes: the node's own address 16, the settings 74, the next link number 8.
+// The head region: the node's own address, the settings, the next link number.
 use crate::Params;
 use crate::layout::COUNTED;
 use crate::layout::HANDSHAKE;

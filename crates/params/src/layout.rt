@@ -32,3 +32,8 @@ pub const PENDING: usize = COUNTED + 1;
 pub const NEXT: usize = PENDING + U64;
 
 pub const HEAD_LEN: usize = NEXT + U64;
+
+// How many replays, and how many counted digests, the settings may ask for.
+pub const REPLAYS_MOST: u8 = 8;
+
+pub const COUNTED_MOST: u8 = 8;

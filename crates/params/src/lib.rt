@@ -3,6 +3,8 @@ pub mod head;
 pub mod layout;
 pub mod time;
 
+use crate::layout::COUNTED_MOST;
+use crate::layout::REPLAYS_MOST;
 ghost use mathlib.Core.Path.{_≡_};
 ghost use mathlib.Core.Bool.{not};
 ghost use Rattle.rules.specs.Time.{default as defaults, outOfRange};
@@ -50,8 +52,8 @@ pub fn in_range(p: Params) -> bool
     if p.counted == 0 {
         return false;
     }
-    if 8 < p.counted {
+    if COUNTED_MOST < p.counted {
         return false;
     }
-    p.replays <= 8
+    p.replays <= REPLAYS_MOST
 }

@@ -1,3 +1,3 @@
-// The whole table in 45,478 lent bytes: what it shows, and its head. The crates `state_..` lift each function of a map to it; no place within the table is named above them.
+// The whole table in one lent slice: where its regions lie, what it shows, and its head. The crates `table_..` lift each function of a map to it; no place within the table is named above them.
 pub mod head;
 pub mod layout;
