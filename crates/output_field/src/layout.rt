@@ -6,12 +6,8 @@ use node_addr::layout::FRAME_LEN;
 use node_addr::layout::NODE_LEN;
 use node_addr::layout::PAIR_ADDR;
 
-pub const VERSION: u8 = 1;
-
-pub const FRAME_LEN: usize = U16 + 1 + 1;
-
 // What a frame counts beside the fields: version and kind.
-pub const FRAMED: usize = 2;
+pub const FRAMED: usize = FRAME_LEN - U16;
 
 pub const DONE_LEN: usize = 1;
 
