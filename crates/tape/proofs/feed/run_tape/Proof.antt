@@ -21,16 +21,16 @@ sub-left : tie.Need-sub-left
 sub-left c = c .before .before .before .before .before .before .before .before .before .before .before .next-record .ensures .tape
 
 same-length-2 : tie.Need-same-length-2
-same-length-2 c = c .before .before .before .before .before .before .before .before .before .first .kept .0
+same-length-2 c = c .before .before .before .before .before .first .kept .0
 
 same-length-3 : tie.Need-same-length-3
-same-length-3 c = c .before .before .skip .kept .0 ∙ c .before .before .before .before .before .before .before .before .before .before .before .before .before .before .before .before .next-record .kept .0
+same-length-3 c = c .before .before .before .before .before .before .before .before .before .before .before .before .next-record .kept .0
 
 same-length-4 : tie.Need-same-length-4
-same-length-4 c = c .before .before .before .before .before .before .before .before .before .first .kept .1 .1 .1 .0
+same-length-4 c = c .before .before .before .before .before .first .kept .1 .1 .1 .0
 
 returns-2 : tie.Need-returns-2
-returns-2 c = (λ e. absurd (true≢false (sym e)), λ e. c .before .before .before .before .before .before .before .before .before .first .ensures .begun .refused (c .before .before .before .before .if2 .taken))
+returns-2 c = (λ e. absurd (true≢false (sym e)), λ e. c .before .before .before .before .before .first .ensures .begun .refused (c .if2 .taken))
 
 run-calls-requires : tie.Need-run-calls-requires
 run-calls-requires c κs = (c .before .before .before .before .before .before .before .before .first .ensures .begun .left (c .before .before .before .if2 .left), (c .before .before .before .before .before .before .before .before .before .before .before .before .before .before .before .next-record .kept .0 ∙ c .before .before .before .before .before .before .before .before .before .before .before .before .before .before .before .before .before .before .before .before .pre .1 .0, c .before .before .before .before .before .before .before .before .first .kept .1 .1 .1 .0 ∙ c .before .before .before .before .before .before .before .before .before .before .before .before .before .before .before .before .before .before .before .before .pre .1 .1))
@@ -48,4 +48,4 @@ returns-3 : tie.Need-returns-3
 returns-3 c = (λ e. taped (c .before .before .before .before .before .before .before .before .before .before .before .before .before .before .before .first .ensures) (c .before .before .before .before .before .before .before .before .before .before .if2 .left) (c .before .before .before .before .before .before .run-calls .ensures), λ e. absurd (true≢false e))
 
 pub run-tape-spec : {M : Type 1} → statement M
-run-tape-spec = tie.close (tie.spec next-record-requires same-length returns first-requires sub-left skip-requires same-length-2 same-length-3 same-length-4 returns-2 run-calls-requires same-length-5 same-length-6 same-length-7 returns-3)
+run-tape-spec = tie.close (tie.spec next-record-requires same-length returns first-requires sub-left same-length-2 same-length-3 same-length-4 returns-2 run-calls-requires same-length-5 same-length-6 same-length-7 returns-3)
