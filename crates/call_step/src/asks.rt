@@ -7,7 +7,7 @@ use input_call::handshake::arrived_fields;
 use input_call::handshake::msg1_fields;
 use input_call::handshake::replacement_fields;
 ghost use Rattle.rules.specs.Record.{arrivedFields, msg1Fields, replacementFields};
-ghost use Rattle.call_step.specs.Ask.{Asked, Answers};
+ghost use Rattle.call_kinds.specs.Ask.{Asked, Answers};
 
 // 3: a msg1 came, and is not read yet.
 pub fn arrived_call(t: &mut [u8], out: &mut [u8], s: &[u8], at: usize, clock: u64) -> Answer

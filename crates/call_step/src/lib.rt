@@ -1,27 +1,23 @@
-// One call on the table: the step of its kind.
+// One call on the table: the step of its kind; and those of a msg1.
 pub mod asks;
-pub mod dials;
-pub mod paths;
-pub mod peers;
-pub mod times;
 
 use crate::asks::arrived_call;
 use crate::asks::msg1_call;
 use crate::asks::replacement_call;
-use crate::dials::abandon_call;
-use crate::dials::dial_call;
-use crate::dials::msg2_call;
-use crate::dials::sent_call;
-use crate::dials::unsent_call;
-use crate::paths::path_call;
-use crate::paths::release_call;
-use crate::peers::heard_call;
-use crate::peers::remove_call;
-use crate::peers::restarted_call;
-use crate::times::close_call;
-use crate::times::poll_call;
-use crate::times::wake_call;
 use call_contract::Answer;
+use call_kinds::dials::abandon_call;
+use call_kinds::dials::dial_call;
+use call_kinds::dials::msg2_call;
+use call_kinds::dials::sent_call;
+use call_kinds::dials::unsent_call;
+use call_kinds::paths::path_call;
+use call_kinds::paths::release_call;
+use call_kinds::peers::heard_call;
+use call_kinds::peers::remove_call;
+use call_kinds::peers::restarted_call;
+use call_kinds::times::close_call;
+use call_kinds::times::poll_call;
+use call_kinds::times::wake_call;
 use input_frame::kind::ABANDON;
 use input_frame::kind::ARRIVED;
 use input_frame::kind::CLOSE;
@@ -40,7 +36,7 @@ use input_frame::kind::WAKE;
 ghost use mathlib.Core.Path.{_≡_};
 ghost use Prim.Native.Nat.{_≤_, _<_};
 ghost use Rattle.input_call.specs.Read.{kindFields};
-ghost use Rattle.call_step.specs.Ask.{Asked, Answers};
+ghost use Rattle.call_kinds.specs.Ask.{Asked, Answers};
 
 // Kinds 0 to 5.
 fn first_kinds(t: &mut [u8], out: &mut [u8], s: &[u8], at: usize, kind: u8, clock: u64) -> Answer

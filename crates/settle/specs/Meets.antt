@@ -29,7 +29,7 @@ use Rattle.call_contract.specs.Did.{Space, Ruled, ruled-refused, ruled-is, spac
 use Rattle.call_contract.specs.Sound.{Ready, sound-bounds}
 use Rattle.input_call.specs.Read.{kindFields}
 use Rattle.input_frame.specs.Frame.{Opens}
-use Rattle.call_step.specs.Ask.{answered, Asked, Answers}
+use Rattle.call_kinds.specs.Ask.{answered, Asked, Answers}
 use Rattle.settle.specs.Contract.{Left, Begun, ruled, ruledBytes, Called}
 
 pub ready : {t : Bytes} → Left t → Ready t

@@ -1,7 +1,7 @@
 -- `call_step::first_kinds` meets its contract.
 use Rattle.rules.specs.Record.{kinds}
-use Rattle.call_step.specs.Ask.{asked-kind, answers-kind, no-kind-answers}
-use Rattle.call_step.specs.Kind.{below-six}
+use Rattle.call_kinds.specs.Ask.{asked-kind, answers-kind, no-kind-answers}
+use Rattle.call_kinds.specs.Kind.{below-six}
 use Rattle.call_step.proofs.first_kinds.Statement.{statement}
 use Rattle.call_step.proofs.first_kinds.Tie as tie
 

@@ -1,7 +1,7 @@
 -- `call_step::last_kinds` meets its contract.
 use Rattle.rules.specs.Record.{kinds}
-use Rattle.call_step.specs.Ask.{asked-kind, answers-kind, no-kind-answers}
-use Rattle.call_step.specs.Kind.{past-sixteen}
+use Rattle.call_kinds.specs.Ask.{asked-kind, answers-kind, no-kind-answers}
+use Rattle.call_kinds.specs.Kind.{past-sixteen}
 use Rattle.call_step.proofs.last_kinds.Statement.{statement}
 use Rattle.call_step.proofs.last_kinds.Tie as tie
 

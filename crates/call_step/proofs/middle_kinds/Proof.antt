@@ -1,7 +1,7 @@
 -- `call_step::middle_kinds` meets its contract.
 use Rattle.rules.specs.Record.{kinds}
-use Rattle.call_step.specs.Ask.{asked-kind, answers-kind}
-use Rattle.call_step.specs.Kind.{is-nine}
+use Rattle.call_kinds.specs.Ask.{asked-kind, answers-kind}
+use Rattle.call_kinds.specs.Kind.{is-nine}
 use Rattle.call_step.proofs.middle_kinds.Statement.{statement}
 use Rattle.call_step.proofs.middle_kinds.Tie as tie
 

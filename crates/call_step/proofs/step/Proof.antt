@@ -1,7 +1,7 @@
 -- `call_step::step` meets its contract.
 use Rattle.rules.specs.Record.{kinds}
 use native.Mathlib.Omega.{arith}
-use Rattle.call_step.specs.Ask.{asked-kind, answers-kind}
+use Rattle.call_kinds.specs.Ask.{asked-kind, answers-kind}
 use Rattle.call_step.proofs.step.Statement.{statement}
 use Rattle.call_step.proofs.step.Tie as tie
 

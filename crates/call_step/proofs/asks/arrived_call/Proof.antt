@@ -1,7 +1,7 @@
 -- `call_step::asks::arrived_call` meets its contract.
 use Rattle.rules.specs.Settle.{step}
 use Rattle.call_contract.specs.Did.{puts-length, ruled-ok}
-use Rattle.call_step.specs.Ask.{unread, read-space, read-done}
+use Rattle.call_kinds.specs.Ask.{unread, read-space, read-done}
 use borrow.Author.Needs.{needs}
 use borrow.Author.Tests.{not-false}
 use mathlib.Core.Path.{refl}
