@@ -1,7 +1,9 @@
 // A whole tape, record by record, of any length.
 use crate::layout::DONE_LEN;
+use crate::layout::LENGTH;
 use crate::record::run_call;
 use crate::record::run_new;
+use lib_bytes::layout::U16;
 use lib_bytes::read::get_be;
 ghost use mathlib.Core.Path.{_≡_};
 ghost use mathlib.Core.Bool.{true, false};
@@ -36,13 +38,13 @@ fn next_record(buf: &mut [u8], left: u64) -> usize
     requires { ⌜ length (now buf) ≡ recordLen ⌝ }
     ensures { λ r. ⌜ Cut left (now (buf .exit)) r ⌝ }
 {
-    let head = least(2, left);
+    let head = least(LENGTH, left);
     let got = read_part(buf, 0, head);
-    if got < 2 {
+    if got < U16 {
         return got;
     }
-    let end = least(get_be(buf, 0, 2) + 2, left);
-    2 + read_part(buf, 2, end)
+    let end = least(get_be(buf, 0, U16) + LENGTH, left);
+    U16 + read_part(buf, U16, end)
 }
 
 // The record of n bytes that makes the table. `show`: its Done is written.

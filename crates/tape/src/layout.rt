@@ -2,6 +2,9 @@
 use lib_bytes::layout::U16;
 use settle::layout::BUFFER_LEN;
 
+// The length of a record, its first two bytes, as a number of bytes to read.
+pub const LENGTH: u64 = 2;
+
 // A record is at most its length and what that can say.
 pub const RECORD_LEN: usize = U16 + 65535;
 
