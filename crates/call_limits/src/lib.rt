@@ -20,7 +20,7 @@ ghost use Rattle.table_layout.specs.View.{viewTable, FitTable};
 ghost use Rattle.call_limits.specs.Enter.{Enters};
 
 // The number that no link gets.
-const LAST_NO: u64 = 18446744073709551615;
+const LAST_NO: u64 = u64::MAX;
 
 // How many peers have a place.
 const PLACES: usize = 32;

@@ -115,10 +115,10 @@ pub fn step(t: &mut [u8], out: &mut [u8], s: &[u8], at: usize, kind: u8, clock: 
     if kind == POLL {
         return poll_call(t, out, s, at, clock);
     }
-    if kind < 6 {
+    if kind < SENT {
         return first_kinds(t, out, s, at, kind, clock);
     }
-    if kind < 10 {
+    if kind < HEARD {
         return middle_kinds(t, out, s, at, kind, clock);
     }
     last_kinds(t, out, s, at, kind, clock)

@@ -26,7 +26,7 @@ replayOf c = record { ephemeral = take 32 c; seen = num (take 8 (drop 32 c)) }
 abbrev pub digestOf : Bytes → Bytes
 digestOf c = c
 
--- ---- a silence, 287 bytes: known, epoch, count, last, refusing, until, the counted digests
+-- ---- a silence: has_epoch, epoch, count, last, has_until, until, the counted digests
 abbrev pub silenceFrom : List Bytes → Silence
 silenceFrom fs = record {
   epoch = optionNum (cell fs 0) (cell fs 1);
@@ -48,7 +48,7 @@ pub record SilenceCells (fs : List Bytes) : Type 0 where
 pub record FitSilenceCell (c : Bytes) : Type 0 where
   pub cells : SilenceCells (cuts 0 0 silenceWs c)
 
--- ---- an entry: peer, stamped, stamp, silent, the silence, the replays
+-- ---- an entry: peer, has_stamp, stamp, has_silence, the silence, the replays
 abbrev pub entryFrom : List Bytes → Memory
 entryFrom fs = record {
   peer = cell fs 0;

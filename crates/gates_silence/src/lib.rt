@@ -10,12 +10,12 @@ use node_addr::Digest;
 use params::Params;
 use params::time::backoff;
 use params::time::deadline;
+use params::time::one_more;
 ghost use mathlib.Core.Path.{_≡_};
 ghost use mathlib.Core.Bool.{false};
 ghost use mathlib.Core.Option.{some};
 ghost use Prim.Native.Nat.{_≤_};
 ghost use Rattle.rules.specs.Base.{option, any, same};
-ghost use Rattle.rules.specs.Std.{saturatingAdd};
 ghost use Rattle.rules.specs.Gates as rule;
 ghost use Rattle.params.specs.View.{viewParams};
 ghost use Rattle.gates_types.specs.View.{optional, viewDigests, viewSilence, FitDigests, FitSilence, FitParams};
@@ -81,16 +81,6 @@ pub fn counting(s: Silence, has_silence: bool, epoch: u64, clock: u64, c: Params
         return new_silence(epoch, clock);
     }
     s
-}
-
-// One more, up to the greatest.
-fn one_more(count: u32) -> u32
-    ensures { λ r. ⌜ r ≡ saturatingAdd count 1 ⌝ }
-{
-    if count == 4294967295 {
-        return count;
-    }
-    count + 1
 }
 
 // Whether the session's digest was counted already.

@@ -16,7 +16,7 @@ use Rattle.node_addr.specs.Place.{pairOf, PairCell, pair-zeros}
 use Rattle.held.specs.Layout.{heldWs, atHeldCount, heldCap, heldWidth}
 use Rattle.held.specs.declared.record.Held as held
 
--- ---- an entry: peer, link, epoch, installed, heard, dated, last, answered, setup, current
+-- ---- an entry: peer, link, epoch, installed, heard, has_last, last, has_setup, setup, current
 -- the k-th cell
 abbrev pub cell : List Bytes → ℕ → Bytes
 cell fs k = getD fs k []

@@ -14,29 +14,19 @@ use lib_bytes::read::get_byte;
 use lib_bytes::write::put_be;
 use lib_bytes::write::put_byte;
 use params::Params;
+use params::time::one_more;
 use params::time::resend_at;
 ghost use mathlib.Core.Path.{_≡_};
 ghost use mathlib.Core.List.{[], _∷_, _++_};
 ghost use Prim.Native.Nat.{_+_, _≤_, _<_};
 ghost use lib.ListN.{length, set};
 ghost use Rattle.rules.specs.Base.{one};
-ghost use Rattle.rules.specs.Std.{saturatingAdd};
 ghost use Rattle.rules.specs.Field.{digits};
 ghost use Rattle.rules.specs.Legs.{resent, markSent, markUnsent};
 ghost use Rattle.lib_laws.specs.Splice.{Wrote};
 ghost use Rattle.params.specs.View.{viewParams};
 ghost use Rattle.legs_entry.specs.Start.{Next};
 ghost use Rattle.legs_entry.specs.View.{FitLegs, viewLegs, legCount, legAt};
-
-// One more, while it fits.
-fn one_more(sent: u32) -> u32
-    ensures { λ r. ⌜ r ≡ saturatingAdd sent 1 ⌝ }
-{
-    if sent < 4294967295 {
-        return sent + 1;
-    }
-    sent
-}
 
 // The resend after n of them, where more are left.
 fn next_resend(c: Params, clock: u64, n: u32) -> Again

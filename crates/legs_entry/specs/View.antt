@@ -16,7 +16,7 @@ use Rattle.node_addr.specs.View.{viewMessage, FitMessage}
 use Rattle.legs_entry.specs.Layout.{legWs, atLegCount, legCap, legWidth}
 use Rattle.legs_entry.specs.declared.leg.Leg as leg
 
--- ---- an entry: link, deadline, timed, next, sent, lease, answer, named, peer, marked, replaces, epoch, digest, msg1 and msg2 with their lengths
+-- ---- an entry: link, deadline, has_next, next, sent, lease, answer, has_peer, peer, answer_sent, replaces, epoch, digest, msg1 and msg2 with their lengths
 -- the k-th cell
 abbrev pub cell : List Bytes → ℕ → Bytes
 cell fs k = getD fs k []

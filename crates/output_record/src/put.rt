@@ -256,11 +256,11 @@ fn put_wake_never(out: &mut [u8], at: usize) -> usize
 }
 
 // 14, with a time or without.
-pub fn put_wake(out: &mut [u8], at: usize, timed: bool, time: u64) -> usize
-    requires { ⌜ at + (if timed then 13 else 5) ≤ length (now out) ⌝ }
-    ensures { λ r. ⌜ Wrote (now (out .entry)) at (if timed then 13 else 5) (outputRecord (Output.Wake (if timed then some time else none))) (now (out .exit)) r ⌝ }
+pub fn put_wake(out: &mut [u8], at: usize, has_time: bool, time: u64) -> usize
+    requires { ⌜ at + (if «has_time» then 13 else 5) ≤ length (now out) ⌝ }
+    ensures { λ r. ⌜ Wrote (now (out .entry)) at (if «has_time» then 13 else 5) (outputRecord (Output.Wake (if «has_time» then some time else none))) (now (out .exit)) r ⌝ }
 {
-    if timed {
+    if has_time {
         return put_wake_at(out, at, time);
     }
     put_wake_never(out, at)

@@ -1,4 +1,4 @@
--- The head region, 98 bytes: the node's own address 16, the settings 74, the next link number 8. What it shows, when it fits, and that heads which show the same are the same.
+-- The head region: the node's own address, the settings, the next link number. What it shows, when it fits, and that heads which show the same are the same.
 use mathlib.Core.Path.{_≡_, sym, ap, _∙_}
 use mathlib.Core.Bool.{false}
 use mathlib.Core.List.{List, [], _∷_, _++_, map, append-assoc, append-nil}

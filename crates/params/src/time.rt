@@ -2,34 +2,49 @@
 ghost use mathlib.Core.Path.{_≡_};
 ghost use Prim.Native.Nat.{_-_, _/_, _<_, min};
 ghost use Rattle.rules.specs.Base.{option};
-ghost use Rattle.rules.specs.Std.{fromNanos, durationMax, saturatingSince, checkedShl, u32Max};
+ghost use Rattle.rules.specs.Std.{fromNanos, durationMax, saturatingSince, saturatingAdd, checkedShl, u32Max};
 ghost use Rattle.rules.specs.Time as rule;
 
 // The furthest that a deadline reaches: 100 years.
 pub const CEILING: u64 = 3153600000000000000;
 
 // The last reading of the clock.
-const LAST: u64 = 18446744073709551615;
+const LAST: u64 = u64::MAX;
+
+// Below which exponent a factor is a power of two, and what it is from there on.
+const FACTOR_BITS: u32 = 32;
+
+const FACTOR_MAX: u64 = u32::MAX as u64;
+
+// One more, while it fits.
+pub fn one_more(n: u32) -> u32
+    ensures { λ r. ⌜ r ≡ saturatingAdd n 1 ⌝ }
+{
+    if n < u32::MAX {
+        return n + 1;
+    }
+    n
+}
 
 // 1 shifted left by the exponent, and 2^32 - 1 from 32 on.
 pub fn factor(exponent: u32) -> u32
     ensures { λ r. ⌜ r ≡ option (checkedShl 1 exponent) u32Max (λ f. f) ⌝ }
     ensures { λ r. ⌜ 0 < r ⌝ }
 {
-    if exponent < 32 {
+    if exponent < FACTOR_BITS {
         return 1u32 << exponent;
     }
-    4294967295
+    u32::MAX
 }
 
 // A number divided by the factor: a shift where that is a power of two.
 fn parted(n: u64, exponent: u32) -> u64
     ensures { λ r. ⌜ r ≡ n / option (checkedShl 1 exponent) u32Max (λ f. f) ⌝ }
 {
-    if exponent < 32 {
+    if exponent < FACTOR_BITS {
         return n >> exponent;
     }
-    n / 4294967295
+    n / FACTOR_MAX
 }
 
 // The base times the factor, cut to the cap. The product is computed only where it is within the cap.

@@ -10,6 +10,11 @@ use lib_bytes::read::get_be;
 ghost use Prim.Native.Nat.{_≤_};
 ghost use lib.ListN.{length};
 
+// The count of a case's bytes; a record has at most its length bytes and what they can say.
+const CASE_HEAD: usize = 3;
+
+const RECORD_LEN: usize = 65537;
+
 fn case_lines(s: &[u8]) {
     call_line(s);
     new_line(s);
@@ -27,23 +32,23 @@ fn case_of(buf: &mut [u8], n: usize) -> bool
     true
 }
 
-// A record has at most 65537 bytes, its length bytes counted.
+// One case, in a buffer for the longest.
 fn sized_case(n: usize) -> bool
     requires { ⌜ n ≤ 65537 ⌝ }
 {
-    let mut buf = [0u8; 65537];
+    let mut buf = [0u8; RECORD_LEN];
     case_of(&mut buf, n)
 }
 
 // Whether there was one more.
 fn one_case() -> bool {
-    let mut head = [0u8; 3];
+    let mut head = [0u8; CASE_HEAD];
     let got = io::read_full(0, &mut head);
-    if got < 3 {
+    if got < CASE_HEAD {
         return false;
     }
-    let n = get_be(&head, 0, 3) as usize;
-    if 65537 < n {
+    let n = get_be(&head, 0, CASE_HEAD) as usize;
+    if RECORD_LEN < n {
         return false;
     }
     sized_case(n)
