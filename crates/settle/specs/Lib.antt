@@ -1,3 +1,4 @@
+pub mod Layout
 pub mod Contract
 pub mod Promise
 pub mod Meets

@@ -30,6 +30,7 @@ use Rattle.call_contract.specs.Sound.{Ready, sound-bounds}
 use Rattle.input_call.specs.Read.{kindFields}
 use Rattle.input_frame.specs.Frame.{Opens}
 use Rattle.call_kinds.specs.Ask.{answered, Asked, Answers}
+use Rattle.settle.specs.Layout.{bufferLen}
 use Rattle.settle.specs.Contract.{Left, Begun, ruled, ruledBytes, Called}
 
 pub ready : {t : Bytes} → Left t → Ready t
@@ -37,14 +38,14 @@ ready {t} l = record { fit = l .fit; sound = sound-bounds (viewTable t) (l .boun
 
 -- ---- the rules' call, by what was read
 
-pub short : (t s o : Bytes) → length o < 10_240 → refuse 2 (viewTable t) ≡ ruled t s o
+pub short : (t s o : Bytes) → length o < bufferLen → refuse 2 (viewTable t) ≡ ruled t s o
 unfolding rule.call
-short t s o h = rw (lt-ltb (length o) 10_240 h)
+short t s o h = rw (lt-ltb (length o) bufferLen h)
 
-module _ (t o : Bytes) (h : 10_240 ≤ length o) {s : Bytes} {good : Bool} {k now at : ℕ} (w : Opens s good k now at) where
+module _ (t o : Bytes) (h : bufferLen ≤ length o) {s : Bytes} {good : Bool} {k now at : ℕ} (w : Opens s good k now at) where
   pub unread : not good ≡ true → refuse 3 (viewTable t) ≡ ruled t s o
   unfolding rule.call
-  unread q = let e : readCall s ≡ none = rw (not-true good q) at (w .is) in rw (le-ltb (length o) 10_240 h, e)
+  unread q = let e : readCall s ≡ none = rw (not-true good q) at (w .is) in rw (le-ltb (length o) bufferLen h, e)
 
   abbrev timed : Call → Timed
   timed c = record { now = now; call = c }
@@ -58,10 +59,10 @@ module _ (t o : Bytes) (h : 10_240 ≤ length o) {s : Bytes} {good : Bool} {k no
   unfolding rule.call answered
   reads q =
       let e : readCall s ≡ option (finished (kindFields k (drop at s))) none (λ c. some (timed c)) = rw (not-false good q) at (w .is) in
-      sym (rw (le-ltb (length o) 10_240 h, e) (said (finished (kindFields k (drop at s)))))
+      sym (rw (le-ltb (length o) bufferLen h, e) (said (finished (kindFields k (drop at s)))))
 
--- 10,240 bytes are room for it
-pub space : {t o : Bytes} (s : Bytes) → All IsByte s → Left t → 10_240 ≤ length o → Space o 0 ((ruled t s o) .step .outs)
+-- such a buffer has room for it
+pub space : {t o : Bytes} (s : Bytes) → All IsByte s → Left t → bufferLen ≤ length o → Space o 0 ((ruled t s o) .step .outs)
 space {t} {o} s b l h = record { room = omega (arith, h, size.written s (length o) (viewTable t) b (l .bounds)) }
 
 -- ---- call
@@ -81,10 +82,10 @@ called {t} {o} {k = k} s b l r =
     }
 
 -- 2: the buffer is short
-pub call-short : {t o : Bytes} (s : Bytes) → All IsByte s → Left t → length o < 10_240 → Called t s o t o 2 0
+pub call-short : {t o : Bytes} (s : Bytes) → All IsByte s → Left t → length o < bufferLen → Called t s o t o 2 0
 call-short {t} {o} s b l h = called s b l (ruled-is (ruled-refused 2 (l .fit) (omega arith)) (short t s o h))
 
-module _ {t s o : Bytes} (b : All IsByte s) (l : Left t) (h : 10_240 ≤ length o) {good : Bool} {k now at : ℕ} (w : Opens s good k now at) where
+module _ {t s o : Bytes} (b : All IsByte s) (l : Left t) (h : bufferLen ≤ length o) {good : Bool} {k now at : ℕ} (w : Opens s good k now at) where
   -- 3: no call was read
   pub call-unread : not good ≡ true → Called t s o t o 3 0
   call-unread q = called s b l (ruled-is (ruled-refused 3 (l .fit) (omega arith)) (unread t o h w q))

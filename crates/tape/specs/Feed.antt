@@ -16,8 +16,10 @@ use Rattle.rules.specs.Tape as rule
 use Rattle.rules.specs.Claim.{Fed}
 use Rattle.rules.specs.Bounds.{IsByte}
 use Rattle.table_layout.specs.View.{viewTable}
+use Rattle.settle.specs.Layout.{bufferLen}
 use Rattle.settle.specs.Contract.{Left, Begun}
 use Rattle.settle.specs.Promise.{Promised}
+use Rattle.tape.specs.Layout.{recordLen}
 use Rattle.tape.specs.Turn.{Opens, Turns}
 
 -- r bytes were read into the buffer b from one place up to another; those before are as they were
@@ -61,7 +63,7 @@ pub record Taped (t u : Bytes) : Type 0 where
 
 -- a record with the buffer that the program lends
 abbrev pub fed : Bytes → Fed
-fed s = record { bytes = s; buffer = 10_240 }
+fed s = record { bytes = s; buffer = bufferLen }
 
 -- what is written is the rules' session, and demand 3 holds of the table that is left
 pub record Kept {t u : Bytes} (a : Taped t u) : Type 0 where
@@ -74,7 +76,7 @@ pub run-calls : {t u w : Bytes} {l : List Bytes} → Run t l u w → w ≡ calls
 unfolding calls
 run-calls end = refl
 run-calls (turn {t} {w = w} {l = l} s a b) =
-    let d = call s 10_240 (viewTable t) in
+    let d = call s bufferLen (viewTable t) in
     ap (λ (x : Bytes). x ++ w) (a .written)
     ∙ ap (λ (x : Bytes). outputs (d .step .outs) ++ doneRecord (d .number) ++ x) (run-calls b ∙ ap (λ (x : Table). calls l x) (a .table))
 
@@ -87,7 +89,7 @@ into {from} {to} b p h q e = record {
   kept = take-put from (to - from) b p h;
 }
 
-pub head-room : (left : ℕ) {head n : ℕ} → head ≡ min 2 left → n ≡ 65_537 → head ≤ n
+pub head-room : (left : ℕ) {head n : ℕ} → head ≡ min 2 left → n ≡ recordLen → head ≤ n
 head-room left e h = omega (arith, e, h, min-le-left 2 left)
 
 pub head-left : {left head got : ℕ} → head ≡ min 2 left → got ≤ head - 0 → got ≤ left
@@ -104,10 +106,10 @@ ends {left} n h e =
     let two : 2 ≤ n + 2 = omega arith in
     record { two = omega (arith, e, le-min two h); said = omega (arith, e, min-le-left (n + 2) left); tape = omega (arith, e, min-le-right (n + 2) left) }
 
-pub cut-short : {left got : ℕ} {b : Bytes} → got < 2 → got ≤ left → length b ≡ 65_537 → Cut left b got
+pub cut-short : {left got : ℕ} {b : Bytes} → got < 2 → got ≤ left → length b ≡ recordLen → Cut left b got
 cut-short q l e = record { room = omega (arith, q, e); tape = l; said = λ h. absurd (omega (arith, h, q)) }
 
-pub cut-whole : {left end n r : ℕ} {b b′ : Bytes} → Ends left n end → n < 65_536 → n ≡ more 0 (take 2 b) → Into 2 end b b′ r → length b′ ≡ 65_537 → Cut left b′ (2 + r)
+pub cut-whole : {left end n r : ℕ} {b b′ : Bytes} → Ends left n end → n < 65_536 → n ≡ more 0 (take 2 b) → Into 2 end b b′ r → length b′ ≡ recordLen → Cut left b′ (2 + r)
 cut-whole w m f i k = record {
   room = omega (arith, w .two, w .said, m, k, i .room);
   tape = omega (arith, w .two, w .tape, i .room);
