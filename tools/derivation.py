@@ -43,7 +43,7 @@ class Derivation:
 
     def __init__(self, crate, fn):
         folder = f"{GENERATED}/Rattle.{crate}.proofs/proofs/{fn}"
-        if not os.path.isfile(f"{folder}/Tie.antt"):  # a function that it calls may have had no proof the last time
+        if not os.path.isfile(f"{folder}/Tie.antt") or "pub spec :" not in open(f"{folder}/Tie.antt").read():  # a function that it calls may have had no proof the last time
             generate(crate, anew=True)
         if not os.path.isfile(f"{folder}/Tie.antt"):
             fail(
@@ -54,6 +54,8 @@ class Derivation:
             lts = f.read()
         with open(f"{folder}/Tie.antt") as f:
             tie = f.read()
+        if "pub spec :" not in tie:
+            fail(f"no needs of {fn} in {crate}: a function that it calls is not proved (rt dev {crate} says which)")
         self.before = {place: (earlier, thing) for place, earlier, thing in PLACE.findall(lts)}
         self.entry = re.findall(r"pub (\S+) :", START.search(lts).group(1))
         self.place = dict(NEED.findall(lts))

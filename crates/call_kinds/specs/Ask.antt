@@ -29,7 +29,7 @@ pub record Asked (fields : Reader Call) (now at : ℕ) (s t o : Bytes) : Type 0 
 pub record Answers (fields : Reader Call) (now at : ℕ) (s t o t′ o′ : Bytes) (n r : ℕ) : Type 0 where
   pub ruled : Ruled t o 0 t′ o′ n r (answered fields now at s (viewTable t))
 
-module _ {fields : Reader Call} {now at : ℕ} {s t o : Bytes} {good : Bool} {c : Call} (a : Asked fields now at s t o) (r : Reads fields at s good c) where
+module _ {R : Type 0} {fields : Reader Call} {now at : ℕ} {s t o : Bytes} {good : Bool} {c : Call} {x b : R} (a : Asked fields now at s t o) (r : Reads fields at s good c x b) where
   abbrev settled : Option Call → Result
   settled x = option x (refuse 3 (viewTable t)) λ c. step now c (viewTable t)
 
@@ -60,4 +60,5 @@ answers-kind k n {now} {at} {s} {t} {o} {t′} {o′} {m} {r} e a = subst (λ (k
 pub no-kind-answers : (k : ℕ) {now at : ℕ} {s t o : Bytes} → kindFields k ≡ fail → Asked (kindFields k) now at s t o → Answers (kindFields k) now at s t o t o 3 0
 no-kind-answers k {now} {at} {s} {t} {o} e a =
     let b : Asked fail now at s t o = subst (λ (f : Reader Call). Asked f now at s t o) e a in
-    subst (λ (f : Reader Call). Answers f now at s t o t o 3 0) (sym e) (unread {good = false} {c = Call.Poll} b (record { is = refl }) refl)
+    let r : Reads {R = Unit {0}} fail at s false Call.Poll tt tt = record { is = refl; off = λ z. refl } in
+    subst (λ (f : Reader Call). Answers f now at s t o t o 3 0) (sym e) (unread b r refl)

@@ -1,3 +1,4 @@
 pub mod Read
+pub mod Blank
 pub mod Hello
 pub mod Event

@@ -2,6 +2,10 @@
 use input_field::Span;
 use node_addr::Digest;
 use node_addr::NodeAddr;
+use node_addr::layout::DIGEST_LEN;
+use node_addr::layout::NODE_LEN;
+ghost use mathlib.Core.Path.{_≡_};
+ghost use Rattle.input_call.specs.Blank.{blankHello};
 
 // The pair, from `from` on, and the messages stand in the record.
 pub struct Hello {
@@ -12,4 +16,18 @@ pub struct Hello {
     pub epoch: u64,
     pub msg2: Span,
     pub lease: u32,
+}
+
+pub fn blank_hello() -> Hello
+    ensures { λ r. ⌜ r ≡ blankHello ⌝ }
+{
+    Hello {
+        peer: NodeAddr([0u8; NODE_LEN]),
+        from: 0,
+        message: Span { at: 0, len: 0 },
+        digest: Digest([0u8; DIGEST_LEN]),
+        epoch: 0,
+        msg2: Span { at: 0, len: 0 },
+        lease: 0,
+    }
 }

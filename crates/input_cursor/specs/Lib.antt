@@ -1,1 +1,3 @@
+pub mod Follow
+pub mod Blank
 pub mod Row

@@ -14,19 +14,19 @@ use mir.Val.{Fits}
 use Rattle.rules.specs.Base.{if_then_else_, Bytes}
 use Rattle.rules.specs.Field.{Reader, code, pair, message}
 use Rattle.lib_laws.specs.Parse.{rest-of}
-use Rattle.lib_laws.specs.Follow.{Stepped, stepped-off, stepped-none, stepped-some}
+use Rattle.input_cursor.specs.Follow.{Stepped, stepped-off, stepped-none, stepped-some}
 use Rattle.rules.specs.Data.{Pair}
 use Rattle.node_addr.specs.Place.{pairHere, PairIn}
 use Rattle.input_field.specs.Field.{Spelt}
 use Rattle.input_field.specs.Parsed.{Parsed, told-yes, told-no, told-room, below, code-is}
 
 -- ---- a reader of a part, made one that passes ok and the place on
-module _ {A : Type 0} {p : Reader A} {ok : Bool} {at : ℕ} {s : Bytes} where
+module _ {A R : Type 0} {p : Reader A} {ok : Bool} {at : ℕ} {s : Bytes} where
   module _ {b : A} {ok′ : Bool} {v : A} {n : ℕ} (t : Parsed b (p (take (length s - at) (drop at s))) ok′ v n (take (length s - at) (drop at s))) (h : not ok ≡ false) (r : at ≤ length s) where
-    pub stepped-no : {w : A} → not ok′ ≡ true → Stepped p ok at s false w at
-    stepped-no q = stepped-none h r (rw rest-of at (told-no t (not-true ok′ q)))
+    pub stepped-no : {w : A} {x : R} → not ok′ ≡ true → Stepped p ok at s false w 0 x x
+    stepped-no q = stepped-none h (rw rest-of at (told-no t (not-true ok′ q)))
 
-    pub stepped-yes : not ok′ ≡ false → Stepped p ok at s true v (at + n)
+    pub stepped-yes : {x y : R} → not ok′ ≡ false → Stepped p ok at s true v (at + n) x y
     stepped-yes q =
         let e : ok′ ≡ true = not-false ok′ q in
         let l = rw rest-of at (told-room t e) in
@@ -43,8 +43,8 @@ module _ (at : ℕ) (s : Bytes) {ok′ : Bool} {n : ℕ} (w : Spelt (take (lengt
   here : Spelt (drop at s) ok′ n
   here = rw rest-of at w
 
-  pub past-no : {ok : Bool} {v : Pair} → not ok ≡ false → not ok′ ≡ true → Stepped pair ok at s false v at
-  past-no h q = stepped-none h r (rw (not-true ok′ q) at (here .is))
+  pub past-no : {R : Type 0} {ok : Bool} {v : Pair} {x : R} → not ok ≡ false → not ok′ ≡ true → Stepped pair ok at s false v 0 x x
+  past-no h q = stepped-none h (rw (not-true ok′ q) at (here .is))
 
   pub past-in : not ok′ ≡ false → PairIn s at
   past-in q =
@@ -55,22 +55,22 @@ module _ (at : ℕ) (s : Bytes) {ok′ : Bool} {n : ℕ} (w : Spelt (take (lengt
   pub past-room : not ok′ ≡ false → at + (5 + n) ≤ length s
   past-room q = omega (arith, past-in q .room, here .size (not-false ok′ q) ∙ getD-drop at s 4 0)
 
-  pub past-yes : {ok : Bool} → not ok ≡ false → not ok′ ≡ false → Stepped pair ok at s true (pairHere (drop at s)) (at + (5 + n))
+  pub past-yes : {R : Type 0} {ok : Bool} {x y : R} → not ok ≡ false → not ok′ ≡ false → Stepped pair ok at s true (pairHere (drop at s)) (at + (5 + n)) x y
   past-yes h q = stepped-some (5 + n) h (past-room q) (rw (not-false ok′ q) at (here .is))
 
 -- a message that stays where it stands
 module _ (at n : ℕ) (s : Bytes) {ok′ : Bool}
     (t : Parsed [] (message (take (length s - at) (drop at s))) ok′ (take n (drop 2 (take (length s - at) (drop at s)))) (2 + n) (take (length s - at) (drop at s)))
     (r : at ≤ length s) (q : not ok′ ≡ false) where
-  pub span-yes : {ok : Bool} → not ok ≡ false → Stepped message ok at s true (take n (drop (at + 2) s)) (at + (2 + n))
-  span-yes {ok} h = simp (rest-of, drop-drop) at (stepped-yes {p = message} {ok = ok} {s = s} t h r q)
+  pub span-yes : {R : Type 0} {ok : Bool} {x y : R} → not ok ≡ false → Stepped message ok at s true (take n (drop (at + 2) s)) (at + (2 + n)) x y
+  span-yes {ok = ok} {x} {y} h = simp (rest-of, drop-drop) at (stepped-yes {p = message} {ok = ok} {s = s} t h r {x = x} {y = y} q)
 
   pub span-room : at + 2 + n ≤ length s
   span-room = let m = rw length-drop at (rw rest-of at (told-room t (not-false ok′ q))) in omega (arith, m)
 
 -- a code, by the byte that was read for it
-pub coded : {A : Type 0} (ms : List A) (d : A) {ok : Bool} {at : ℕ} {s : Bytes} {ok′ : Bool} {v at′ : ℕ} → Stepped (below (length ms)) ok at s ok′ v at′ → Stepped (code ms) ok at s ok′ (getD ms v d) at′
-coded {A} ms d {ok} {at} {s} {ok′} {v} {at′} t = record { is = go ok ok′ (t .is); room = t .room }
+pub coded : {A R : Type 0} (ms : List A) (d : A) {ok : Bool} {at : ℕ} {s : Bytes} {ok′ : Bool} {v at′ : ℕ} {x y : R} → Stepped (below (length ms)) ok at s ok′ v at′ x y → Stepped (code ms) ok at s ok′ (getD ms v d) at′ x y
+coded ms d {ok} {at} {s} {ok′} {v} {at′} t = record { is = go ok ok′ (t .is); room = t .room; off = t .off }
   where
     go : (ok ok′ : Bool) → (if ok then below (length ms) (drop at s) else none) ≡ (if ok′ then some (v, drop at′ s) else none)
         → (if ok then code ms (drop at s) else none) ≡ (if ok′ then some (getD ms v d, drop at′ s) else none)

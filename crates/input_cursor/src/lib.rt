@@ -1,4 +1,4 @@
-// Readers in a row: each is told whether all went well so far and where its field begins, hands the rest of the record to the field's reader, and passes both on.
+// Readers in a row: each is told whether all went well so far and where its field begins, hands the rest of the record to the field's reader, and passes both on. Where it reads nothing its answer is blank, place and value.
 use input_field::Span;
 use input_field::message_span;
 use input_field::pair_span;
@@ -18,6 +18,8 @@ use node_addr::Digest;
 use node_addr::Message;
 use node_addr::NodeAddr;
 use node_addr::Pair;
+use node_addr::blank_message;
+use node_addr::blank_pair;
 use node_addr::layout::DIGEST_LEN;
 use node_addr::layout::NODE_LEN;
 use node_addr::layout::PAIR_ADDR;
@@ -27,11 +29,12 @@ ghost use Prim.Native.Nat.{_+_, _≤_, _<_};
 ghost use lib.Dec.{eqb};
 ghost use lib.ListN.{length, drop};
 ghost use Rattle.rules.specs.Field.{number, peer, lease, digest, flag, pair, message};
-ghost use Rattle.lib_laws.specs.Follow.{Stepped};
 ghost use Rattle.node_addr.specs.View.{viewPair, viewMessage, FitPair, FitMessage};
 ghost use Rattle.node_addr.specs.Place.{pairHere, PairIn};
 ghost use Rattle.input_field.specs.Parsed.{below};
 ghost use Rattle.input_field.specs.Field.{spanOf, FitSpan};
+ghost use Rattle.input_cursor.specs.Follow.{Stepped};
+ghost use Rattle.input_cursor.specs.Blank.{noPeer, noDigest, noU64, noU32, noByte, noFlag, noPair, noMessage, noPast, noSpan};
 
 pub struct PeerAt {
     pub ok: bool,
@@ -95,24 +98,24 @@ pub struct SpanAt {
 // A node address.
 pub fn next_peer(s: &[u8], ok: bool, at: usize) -> PeerAt
     requires { ⌜ at ≤ length (now s) ⌝ }
-    ensures { λ r. ⌜ Stepped peer ok at (now (s .entry)) (r .ok) (r .value .0) (r .at) ⌝ }
+    ensures { λ r. ⌜ Stepped peer ok at (now (s .entry)) (r .ok) (r .value .0) (r .at) r noPeer ⌝ }
 {
-    let w = read_peer(&s[at..]);
-    let value = w.value;
     if !ok {
         return PeerAt {
             ok: false,
-            value: value,
-            at: at,
+            value: NodeAddr([0u8; NODE_LEN]),
+            at: 0,
         };
     }
+    let w = read_peer(&s[at..]);
     if !w.ok {
         return PeerAt {
             ok: false,
-            value: value,
-            at: at,
+            value: NodeAddr([0u8; NODE_LEN]),
+            at: 0,
         };
     }
+    let value = w.value;
     PeerAt {
         ok: true,
         value: value,
@@ -123,24 +126,24 @@ pub fn next_peer(s: &[u8], ok: bool, at: usize) -> PeerAt
 // A digest.
 pub fn next_digest(s: &[u8], ok: bool, at: usize) -> DigestAt
     requires { ⌜ at ≤ length (now s) ⌝ }
-    ensures { λ r. ⌜ Stepped digest ok at (now (s .entry)) (r .ok) (r .value .0) (r .at) ⌝ }
+    ensures { λ r. ⌜ Stepped digest ok at (now (s .entry)) (r .ok) (r .value .0) (r .at) r noDigest ⌝ }
 {
-    let w = read_digest(&s[at..]);
-    let value = w.value;
     if !ok {
         return DigestAt {
             ok: false,
-            value: value,
-            at: at,
+            value: Digest([0u8; DIGEST_LEN]),
+            at: 0,
         };
     }
+    let w = read_digest(&s[at..]);
     if !w.ok {
         return DigestAt {
             ok: false,
-            value: value,
-            at: at,
+            value: Digest([0u8; DIGEST_LEN]),
+            at: 0,
         };
     }
+    let value = w.value;
     DigestAt {
         ok: true,
         value: value,
@@ -151,24 +154,24 @@ pub fn next_digest(s: &[u8], ok: bool, at: usize) -> DigestAt
 // A number of 8 bytes.
 pub fn next_u64(s: &[u8], ok: bool, at: usize) -> U64At
     requires { ⌜ at ≤ length (now s) ⌝ }
-    ensures { λ r. ⌜ Stepped (number 8) ok at (now (s .entry)) (r .ok) (r .value) (r .at) ⌝ }
+    ensures { λ r. ⌜ Stepped (number 8) ok at (now (s .entry)) (r .ok) (r .value) (r .at) r noU64 ⌝ }
 {
-    let w = read_u64(&s[at..]);
-    let value = w.value;
     if !ok {
         return U64At {
             ok: false,
-            value: value,
-            at: at,
+            value: 0,
+            at: 0,
         };
     }
+    let w = read_u64(&s[at..]);
     if !w.ok {
         return U64At {
             ok: false,
-            value: value,
-            at: at,
+            value: 0,
+            at: 0,
         };
     }
+    let value = w.value;
     U64At {
         ok: true,
         value: value,
@@ -179,24 +182,24 @@ pub fn next_u64(s: &[u8], ok: bool, at: usize) -> U64At
 // A number of 4 bytes.
 pub fn next_u32(s: &[u8], ok: bool, at: usize) -> U32At
     requires { ⌜ at ≤ length (now s) ⌝ }
-    ensures { λ r. ⌜ Stepped lease ok at (now (s .entry)) (r .ok) (r .value) (r .at) ⌝ }
+    ensures { λ r. ⌜ Stepped lease ok at (now (s .entry)) (r .ok) (r .value) (r .at) r noU32 ⌝ }
 {
-    let w = read_u32(&s[at..]);
-    let value = w.value;
     if !ok {
         return U32At {
             ok: false,
-            value: value,
-            at: at,
+            value: 0,
+            at: 0,
         };
     }
+    let w = read_u32(&s[at..]);
     if !w.ok {
         return U32At {
             ok: false,
-            value: value,
-            at: at,
+            value: 0,
+            at: 0,
         };
     }
+    let value = w.value;
     U32At {
         ok: true,
         value: value,
@@ -207,24 +210,24 @@ pub fn next_u32(s: &[u8], ok: bool, at: usize) -> U32At
 // A byte.
 pub fn next_byte(s: &[u8], ok: bool, at: usize) -> ByteAt
     requires { ⌜ at ≤ length (now s) ⌝ }
-    ensures { λ r. ⌜ Stepped (number 1) ok at (now (s .entry)) (r .ok) (r .value) (r .at) ⌝ }
+    ensures { λ r. ⌜ Stepped (number 1) ok at (now (s .entry)) (r .ok) (r .value) (r .at) r noByte ⌝ }
 {
-    let w = read_byte(&s[at..]);
-    let value = w.value;
     if !ok {
         return ByteAt {
             ok: false,
-            value: value,
-            at: at,
+            value: 0,
+            at: 0,
         };
     }
+    let w = read_byte(&s[at..]);
     if !w.ok {
         return ByteAt {
             ok: false,
-            value: value,
-            at: at,
+            value: 0,
+            at: 0,
         };
     }
+    let value = w.value;
     ByteAt {
         ok: true,
         value: value,
@@ -236,25 +239,25 @@ pub fn next_byte(s: &[u8], ok: bool, at: usize) -> ByteAt
 pub fn next_code(s: &[u8], ok: bool, at: usize, k: u8) -> ByteAt
     requires { ⌜ 0 < k ⌝ }
     requires { ⌜ at ≤ length (now s) ⌝ }
-    ensures { λ r. ⌜ Stepped (below k) ok at (now (s .entry)) (r .ok) (r .value) (r .at) ⌝ }
+    ensures { λ r. ⌜ Stepped (below k) ok at (now (s .entry)) (r .ok) (r .value) (r .at) r noByte ⌝ }
     ensures { λ r. ⌜ r .value < k ⌝ }
 {
-    let w = read_code(&s[at..], k);
-    let value = w.value;
     if !ok {
         return ByteAt {
             ok: false,
-            value: value,
-            at: at,
+            value: 0,
+            at: 0,
         };
     }
+    let w = read_code(&s[at..], k);
     if !w.ok {
         return ByteAt {
             ok: false,
-            value: value,
-            at: at,
+            value: 0,
+            at: 0,
         };
     }
+    let value = w.value;
     ByteAt {
         ok: true,
         value: value,
@@ -265,24 +268,24 @@ pub fn next_code(s: &[u8], ok: bool, at: usize, k: u8) -> ByteAt
 // A flag.
 pub fn next_flag(s: &[u8], ok: bool, at: usize) -> FlagAt
     requires { ⌜ at ≤ length (now s) ⌝ }
-    ensures { λ r. ⌜ Stepped flag ok at (now (s .entry)) (r .ok) (r .value) (r .at) ⌝ }
+    ensures { λ r. ⌜ Stepped flag ok at (now (s .entry)) (r .ok) (r .value) (r .at) r noFlag ⌝ }
 {
-    let w = read_flag(&s[at..]);
-    let value = w.value;
     if !ok {
         return FlagAt {
             ok: false,
-            value: value,
-            at: at,
+            value: false,
+            at: 0,
         };
     }
+    let w = read_flag(&s[at..]);
     if !w.ok {
         return FlagAt {
             ok: false,
-            value: value,
-            at: at,
+            value: false,
+            at: 0,
         };
     }
+    let value = w.value;
     FlagAt {
         ok: true,
         value: value,
@@ -290,29 +293,32 @@ pub fn next_flag(s: &[u8], ok: bool, at: usize) -> FlagAt
     }
 }
 
+fn no_pair() -> PairAt
+    ensures { λ r. ⌜ r ≡ noPair ⌝ }
+{
+    let blank = blank_pair();
+    PairAt {
+        ok: false,
+        value: blank,
+        at: 0,
+    }
+}
+
 // A pair.
 pub fn next_pair(s: &[u8], ok: bool, at: usize) -> PairAt
     requires { ⌜ at ≤ length (now s) ⌝ }
-    ensures { λ r. ⌜ Stepped pair ok at (now (s .entry)) (r .ok) (viewPair (r .value)) (r .at) ⌝ }
+    ensures { λ r. ⌜ Stepped pair ok at (now (s .entry)) (r .ok) (viewPair (r .value)) (r .at) r noPair ⌝ }
     ensures { λ r. ⌜ FitPair (r .value) ⌝ }
 {
+    if !ok {
+        return no_pair();
+    }
     let w = read_pair(&s[at..]);
+    if !w.ok {
+        return no_pair();
+    }
     let value = w.value;
     let n = value.addr.len;
-    if !ok {
-        return PairAt {
-            ok: false,
-            value: value,
-            at: at,
-        };
-    }
-    if !w.ok {
-        return PairAt {
-            ok: false,
-            value: value,
-            at: at,
-        };
-    }
     PairAt {
         ok: true,
         value: value,
@@ -323,46 +329,49 @@ pub fn next_pair(s: &[u8], ok: bool, at: usize) -> PairAt
 // A pair, which stays where it stands.
 pub fn skip_pair(s: &[u8], ok: bool, at: usize) -> PastAt
     requires { ⌜ at ≤ length (now s) ⌝ }
-    ensures { λ r. ⌜ Stepped pair ok at (now (s .entry)) (r .ok) (pairHere (drop at (now (s .entry)))) (r .at) ⌝ }
+    ensures { λ r. ⌜ Stepped pair ok at (now (s .entry)) (r .ok) (pairHere (drop at (now (s .entry)))) (r .at) r noPast ⌝ }
     ensures { λ r. ⌜ (r .ok ≡ true → PairIn (now (s .entry)) at) ⌝ }
 {
-    let w = pair_span(&s[at..]);
-    let n = w.len;
     if !ok {
-        return PastAt { ok: false, at: at };
+        return PastAt { ok: false, at: 0 };
     }
+    let w = pair_span(&s[at..]);
     if !w.ok {
-        return PastAt { ok: false, at: at };
+        return PastAt { ok: false, at: 0 };
     }
+    let n = w.len;
     PastAt {
         ok: true,
         at: at + (PAIR_ADDR + n),
     }
 }
 
+fn no_message() -> MessageAt
+    ensures { λ r. ⌜ r ≡ noMessage ⌝ }
+{
+    let blank = blank_message();
+    MessageAt {
+        ok: false,
+        value: blank,
+        at: 0,
+    }
+}
+
 // A message.
 pub fn next_message(s: &[u8], ok: bool, at: usize) -> MessageAt
     requires { ⌜ at ≤ length (now s) ⌝ }
-    ensures { λ r. ⌜ Stepped message ok at (now (s .entry)) (r .ok) (viewMessage (r .value)) (r .at) ⌝ }
+    ensures { λ r. ⌜ Stepped message ok at (now (s .entry)) (r .ok) (viewMessage (r .value)) (r .at) r noMessage ⌝ }
     ensures { λ r. ⌜ FitMessage (r .value) ⌝ }
 {
+    if !ok {
+        return no_message();
+    }
     let w = read_message(&s[at..]);
+    if !w.ok {
+        return no_message();
+    }
     let value = w.value;
     let n = value.len;
-    if !ok {
-        return MessageAt {
-            ok: false,
-            value: value,
-            at: at,
-        };
-    }
-    if !w.ok {
-        return MessageAt {
-            ok: false,
-            value: value,
-            at: at,
-        };
-    }
     MessageAt {
         ok: true,
         value: value,
@@ -373,25 +382,25 @@ pub fn next_message(s: &[u8], ok: bool, at: usize) -> MessageAt
 // A message, which stays where it stands.
 pub fn next_span(s: &[u8], ok: bool, at: usize) -> SpanAt
     requires { ⌜ at ≤ length (now s) ⌝ }
-    ensures { λ r. ⌜ Stepped message ok at (now (s .entry)) (r .ok) (spanOf (now (s .entry)) (r .value)) (r .at) ⌝ }
+    ensures { λ r. ⌜ Stepped message ok at (now (s .entry)) (r .ok) (spanOf (now (s .entry)) (r .value)) (r .at) r noSpan ⌝ }
     ensures { λ r. ⌜ FitSpan (now (s .entry)) (r .value) ⌝ }
 {
-    let w = message_span(&s[at..]);
-    let n = w.len;
     if !ok {
         return SpanAt {
             ok: false,
-            value: Span { at: at, len: 0 },
-            at: at,
+            value: Span { at: 0, len: 0 },
+            at: 0,
         };
     }
+    let w = message_span(&s[at..]);
     if !w.ok {
         return SpanAt {
             ok: false,
-            value: Span { at: at, len: 0 },
-            at: at,
+            value: Span { at: 0, len: 0 },
+            at: 0,
         };
     }
+    let n = w.len;
     SpanAt {
         ok: true,
         value: Span {

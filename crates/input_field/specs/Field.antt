@@ -71,14 +71,15 @@ flag-told {ok} {v} {s} t h = record {
 
 -- ---- a pair: transport 4, length 1, address
 
--- s begins with a pair whose address has n bytes, or with none
+-- s begins with a pair whose address has n bytes, or with none: then n is 0
 pub record Spelt (s : Bytes) (ok : Bool) (n : ℕ) : Type 0 where
   pub is : pair s ≡ (if ok then some (pairHere s, drop (5 + n) s) else none)
   pub stands : ok ≡ true → PairIn s 0
   pub size : ok ≡ true → n ≡ getD s 4 0
+  pub off : ok ≡ false → n ≡ 0
 
-pub unspelt : {s : Bytes} {n : ℕ} → pair s ≡ none → Spelt s false n
-unspelt e = record { is = e; stands = λ z. never z; size = λ z. never z }
+pub unspelt : {s : Bytes} → pair s ≡ none → Spelt s false 0
+unspelt e = record { is = e; stands = λ z. never z; size = λ z. never z; off = λ z. refl }
 
 pub spelt-none : {s : Bytes} {ok : Bool} {n : ℕ} → Spelt s ok n → not ok ≡ true → pair s ≡ none
 spelt-none {ok = ok} w q = rw (not-true ok q) at (w .is)
@@ -118,6 +119,7 @@ module _ (s : Bytes) where
       is = begun ∙ rw (upTo-yes n (drop 5 s) 48 k (rw length-drop q), drop-drop n 5 s, e);
       stands = λ z. record { small = rw (← e) k; room = rw (← e) (omega (arith, h, q)) };
       size = λ z. e;
+      off = λ z. never (sym z);
     }
 
 -- ---- a message: length 2, bytes

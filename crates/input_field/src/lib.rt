@@ -283,6 +283,7 @@ fn no_message() -> ReadMessage
 pub fn message_span(rest: &[u8]) -> ReadSpan
     ensures { λ r. ⌜ Parsed [] (message (now (rest .entry))) (r .ok) (take (r .len) (drop 2 (now (rest .entry)))) (2 + r .len) (now (rest .entry)) ⌝ }
     ensures { λ r. ⌜ r .len ≤ 128 ⌝ }
+    ensures { λ r. ⌜ (r .ok ≡ false → r .len ≡ 0) ⌝ }
 {
     if rest.len() < U16 {
         return ReadSpan { ok: false, len: 0 };

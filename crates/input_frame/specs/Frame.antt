@@ -1,11 +1,11 @@
 -- The frame of a record: length (of what follows), version 1, kind; and what the whole record says, by its fields.
 use mathlib.Core.Path.{_≡_, refl, ap, _∙_}
-use mathlib.Core.Bool.{Bool, true, false, not, _&&_}
+use mathlib.Core.Bool.{Bool, true, false, _&&_, true≢false}
 use mathlib.Core.Option.{Option, none, some}
 use mathlib.Core.List.{[], _∷_}
 use Prim.Native.Nat.{ℕ, _+_, _≤_, _<_}
 use native.Mathlib.Omega.{arith}
-use borrow.Author.Tests.{leb-true, leb-false, eq-eqb, ne-eqb, not-true, not-false}
+use borrow.Author.Tests.{leb-true, leb-false, eq-eqb, ne-eqb}
 use lib.Dec.{eqb, leb}
 use lib.Seq.{drop-drop}
 use lib.ListN.{length, take, drop, getD, length-drop}
@@ -14,7 +14,7 @@ use Rattle.rules.specs.Data.{Call}
 use Rattle.rules.specs.Field.{Reader, give, fail, bind, number, clock, more}
 use Rattle.rules.specs.Record.{Timed, timed, finished, framed, readCall}
 use Rattle.lib_laws.specs.Parse.{number-yes, number-no, byte-is}
-use Rattle.lib_laws.specs.Follow.{Stepped, follows-start, follows-step}
+use Rattle.input_cursor.specs.Follow.{Stepped}
 use Rattle.input_call.specs.Read.{kindFields}
 
 -- the kind, where length and version are right
@@ -50,9 +50,9 @@ framed-is {A} fields s = ap (finished {A = A}) (one (number 2 s))
 
 -- ---- what the code finds
 module _ (s : Bytes) where
-  pub heading-short : {k : ℕ} → length s < 4 → Stepped heading true 0 s false k 0
+  pub heading-short : {R : Type 0} {k : ℕ} {r : R} → length s < 4 → Stepped heading true 0 s false k 0 r r
   unfolding heading bind
-  heading-short h = record { is = go (leb 2 (length s)) (leb 3 (length s)) refl refl; room = omega arith }
+  heading-short h = record { is = go (leb 2 (length s)) (leb 3 (length s)) refl refl; room = omega arith; off = λ z. refl }
     where
       go : (a b : Bool) → leb 2 (length s) ≡ a → leb 3 (length s) ≡ b → heading s ≡ none
       go false b e f = rw (number-no 2 s (leb-false 2 (length s) e))
@@ -77,14 +77,14 @@ module _ (s : Bytes) where
       drop-drop 1 3 s,
     )
 
-    pub heading-length : {k n : ℕ} → n ≡ more 0 (take 2 s) → (n + 2 ≡ length s → ⊥) → Stepped heading true 0 s false k 0
-    heading-length {n = n} e q = record { is = begun ∙ rw (← e, ne-eqb (n + 2) (length s) q); room = omega arith }
+    pub heading-length : {R : Type 0} {k n : ℕ} {r : R} → n ≡ more 0 (take 2 s) → (n + 2 ≡ length s → ⊥) → Stepped heading true 0 s false k 0 r r
+    heading-length {n = n} e q = record { is = begun ∙ rw (← e, ne-eqb (n + 2) (length s) q); room = omega arith; off = λ z. refl }
 
-    pub heading-version : {k n : ℕ} → n ≡ more 0 (take 2 s) → n + 2 ≡ length s → (getD s 2 0 ≡ 1 → ⊥) → Stepped heading true 0 s false k 0
-    heading-version {n = n} e q v = record { is = begun ∙ rw (← e, eq-eqb (n + 2) (length s) q, ne-eqb (getD s 2 0) 1 v); room = omega arith }
+    pub heading-version : {R : Type 0} {k n : ℕ} {r : R} → n ≡ more 0 (take 2 s) → n + 2 ≡ length s → (getD s 2 0 ≡ 1 → ⊥) → Stepped heading true 0 s false k 0 r r
+    heading-version {n = n} e q v = record { is = begun ∙ rw (← e, eq-eqb (n + 2) (length s) q, ne-eqb (getD s 2 0) 1 v); room = omega arith; off = λ z. refl }
 
-    pub heading-read : {n : ℕ} → n ≡ more 0 (take 2 s) → n + 2 ≡ length s → getD s 2 0 ≡ 1 → Stepped heading true 0 s true (getD s 3 0) 4
-    heading-read {n} e q v = record { is = begun ∙ rw (← e, eq-eqb (n + 2) (length s) q, eq-eqb (getD s 2 0) 1 v); room = h }
+    pub heading-read : {R : Type 0} {n : ℕ} {r b : R} → n ≡ more 0 (take 2 s) → n + 2 ≡ length s → getD s 2 0 ≡ 1 → Stepped heading true 0 s true (getD s 3 0) 4 r b
+    heading-read {n} e q v = record { is = begun ∙ rw (← e, eq-eqb (n + 2) (length s) q, eq-eqb (getD s 2 0) 1 v); room = h; off = λ z. absurd (true≢false z) }
 
 -- ---- the whole record
 
@@ -98,28 +98,44 @@ clocked : (now : ℕ) (fields : Reader Call) (s : Bytes) → finished {A = Timed
 unfolding bind
 clocked now fields s = stamped now (fields s)
 
+-- kind and clock
+unfoldable pub header : Reader (ℕ × ℕ)
+header = bind heading λ k. bind clock λ now. give (k, now)
+
+-- what follows them
+fields : (ℕ × ℕ) × Bytes → Option (Timed × Bytes)
+fields x = bind (kindFields (x .0 .0)) (λ c. give (record { now = x .0 .1; call = c })) (x .1)
+
+headed : (s : Bytes) → bind heading timed s ≡ option (header s) none fields
+unfolding header timed fields bind
+headed s = one (heading s)
+  where
+    two : (k : ℕ) (o : Option (ℕ × Bytes))
+        → option {B = Option (Timed × Bytes)} o none (λ r. option (kindFields k (r .1)) none (λ q. some (record { now = r .0; call = q .0 }, q .1)))
+        ≡ option (option {B = Option ((ℕ × ℕ) × Bytes)} o none (λ r. some ((k, r .0), r .1))) none (λ x. option (kindFields (x .0 .0) (x .1)) none (λ q. some (record { now = x .0 .1; call = q .0 }, q .1)))
+    two k none = refl
+    two k (some x) = refl
+
+    one : (o : Option (ℕ × Bytes))
+        → option {B = Option (Timed × Bytes)} o none (λ p. option (clock (p .1)) none (λ r. option (kindFields (p .0) (r .1)) none (λ q. some (record { now = r .0; call = q .0 }, q .1))))
+        ≡ option (option {B = Option ((ℕ × ℕ) × Bytes)} o none (λ p. option (clock (p .1)) none (λ r. some ((p .0, r .0), r .1)))) none (λ x. option (kindFields (x .0 .0) (x .1)) none (λ q. some (record { now = x .0 .1; call = q .0 }, q .1)))
+    one none = refl
+    one (some x) = two (x .0) (clock (x .1))
+
 -- a record's call: none, or that of the fields from `at` on, of kind k, at a clock reading
 pub record Opens (s : Bytes) (ok : Bool) (k now at : ℕ) : Type 0 where
   pub is : readCall s ≡ (if ok then option (finished (kindFields k (drop at s))) none (λ c. some (record { now = now; call = c })) else none)
   pub room : at ≤ length s
 
-module _ {s : Bytes} {ok : Bool} {k a : ℕ} (h : Stepped heading true 0 s ok k a) where
-  pub opens-none : {j now : ℕ} → not ok ≡ true → Opens s false j now 0
-  unfolding readCall bind
-  opens-none q =
-      let e : heading s ≡ none = rw (not-true ok q) at (h .is) in
-      record { is = framed-is timed s ∙ rw e; room = omega arith }
-
-  -- heading, clock and fields, in a row
-  pub opens : {ok₂ : Bool} {now b : ℕ} → not ok ≡ false → Stepped clock true a s ok₂ now b → Opens s ok₂ k now b
-  unfolding readCall timed
-  opens {ok₂} {now} {b} q t =
-      let h′ : Stepped heading true 0 s true k a = rw (not-false ok q) at h in
-      let f = follows-step (λ v. bind (kindFields k) λ c. give (record { now = v; call = c })) (follows-step timed (follows-start (bind heading timed) true 0 s) h′) t in
-      record { is = framed-is timed s ∙ ap (finished {A = Timed}) (f .is) ∙ go ok₂; room = t .room }
-    where
-      go : (ok : Bool)
-          → finished {A = Timed} (if ok then bind (kindFields k) (λ c. give (record { now = now; call = c })) (drop b s) else none)
-          ≡ (if ok then option (finished (kindFields k (drop b s))) none (λ c. some (record { now = now; call = c })) else none)
-      go true = clocked now (kindFields k) (drop b s)
-      go false = refl
+pub opens : {R : Type 0} {s : Bytes} {ok : Bool} {k now at : ℕ} {r b : R} → Stepped header true 0 s ok (k, now) at r b → Opens s ok k now at
+unfolding readCall fields
+opens {s = s} {ok} {k} {now} {at} t = record {
+  is = framed-is timed s ∙ ap (finished {A = Timed}) (headed s) ∙ ap (λ (o : Option ((ℕ × ℕ) × Bytes)). finished {A = Timed} (option o none fields)) (t .is) ∙ go ok;
+  room = t .room;
+}
+  where
+    go : (ok : Bool)
+        → finished {A = Timed} (option (if ok then some ((k, now), drop at s) else none) none fields)
+        ≡ (if ok then option (finished (kindFields k (drop at s))) none (λ c. some (record { now = now; call = c })) else none)
+    go true = clocked now (kindFields k) (drop at s)
+    go false = refl

@@ -9,8 +9,9 @@ use node_addr::layout::FRAME_LEN;
 use node_addr::layout::FRAME_VERSION;
 use node_addr::layout::VERSION;
 ghost use mathlib.Core.Bool.{true};
-ghost use Rattle.lib_laws.specs.Follow.{Stepped};
-ghost use Rattle.input_frame.specs.Frame.{heading, Opens};
+ghost use Rattle.input_cursor.specs.Follow.{Stepped};
+ghost use Rattle.input_frame.specs.Frame.{heading, header};
+ghost use Rattle.input_frame.specs.Blank.{noFrame, noHeader};
 
 pub struct Frame {
     pub ok: bool,
@@ -20,7 +21,7 @@ pub struct Frame {
 
 // Length, version and kind. The rest of the record is at `at`.
 pub fn read_frame(rec: &[u8]) -> Frame
-    ensures { λ r. ⌜ Stepped heading true 0 (now (rec .entry)) (r .ok) (r .kind) (r .at) ⌝ }
+    ensures { λ r. ⌜ Stepped heading true 0 (now (rec .entry)) (r .ok) (r .kind) (r .at) r noFrame ⌝ }
 {
     if rec.len() < FRAME_LEN {
         return Frame {
@@ -59,10 +60,11 @@ pub struct Header {
 
 // Frame and clock of a call. Its fields are from `at` on.
 pub fn read_header(rec: &[u8]) -> Header
-    ensures { λ r. ⌜ Opens (now (rec .entry)) (r .ok) (r .kind) (r .now) (r .at) ⌝ }
+    ensures { λ r. ⌜ Stepped header true 0 (now (rec .entry)) (r .ok) (r .kind, r .now) (r .at) r noHeader ⌝ }
 {
     let f = read_frame(rec);
-    if !f.ok {
+    let t = next_u64(rec, f.ok, f.at);
+    if !t.ok {
         return Header {
             ok: false,
             kind: 0,
@@ -70,9 +72,8 @@ pub fn read_header(rec: &[u8]) -> Header
             at: 0,
         };
     }
-    let t = next_u64(rec, true, f.at);
     Header {
-        ok: t.ok,
+        ok: true,
         kind: f.kind,
         now: t.value,
         at: t.at,

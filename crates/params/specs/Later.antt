@@ -20,13 +20,27 @@ use Rattle.rules.proofs.Time.{factor, late, ceilingNanos, backoff-nanos, deadli
 shifted : (e : ℕ) → e < 32 → (1 * 2 ^ e) % 2 ^ 32 ≡ 2 ^ e
 shifted e h = shl-exact {a = 1} 1 e 32 (lit< tt) (omega arith) ∙ one-mul (2 ^ e)
 
-pub factor-shift : (e : ℕ) → e < 32 → ((1 * 2 ^ e) % 2 ^ 32 ≡ option (checkedShl 1 e) u32Max (λ f. f)) × (0 < (1 * 2 ^ e) % 2 ^ 32)
-unfolding checkedShl
-factor-shift e h = (rw (lt-ltb e 32 h), rw (shifted e h) (pow-pos e))
+-- 2 ^ e below 32, and from there on the greatest of 32 bits
+abbrev pub power : ℕ → ℕ
+power e = if ltb e 32 then 2 ^ e else 2 ^ 32 - 1
+
+module _ (e : ℕ) (h : e < 32) where
+  pub factor-shift : (1 * 2 ^ e) % 2 ^ 32 ≡ option (checkedShl 1 e) u32Max (λ f. f)
+  unfolding checkedShl
+  factor-shift = rw (lt-ltb e 32 h)
+
+  pub power-shift : (1 * 2 ^ e) % 2 ^ 32 ≡ power e
+  power-shift = rw (lt-ltb e 32 h) (shifted e h)
+
+  pub shift-some : 0 < (1 * 2 ^ e) % 2 ^ 32
+  shift-some = rw (shifted e h) (pow-pos e)
 
 pub factor-most : (e : ℕ) → 32 ≤ e → 4294967295 ≡ option (checkedShl 1 e) u32Max (λ f. f)
 unfolding checkedShl
 factor-most e h = rw (le-ltb e 32 h)
+
+pub power-most : (e : ℕ) → 32 ≤ e → 4294967295 ≡ power e
+power-most e h = rw (le-ltb e 32 h)
 
 factor-is : (e : ℕ) → option (checkedShl 1 e) u32Max (λ f. f) ≡ factor e
 unfolding checkedShl factor
@@ -38,7 +52,7 @@ factor-is e = go (ltb e 32) refl
 
 -- ---- the quotient
 pub parted-shift : (n e : ℕ) → e < 32 → n / 2 ^ e ≡ n / option (checkedShl 1 e) u32Max (λ f. f)
-parted-shift n e h = rw (← factor-shift e h .0, shifted e h)
+parted-shift n e h = rw (← factor-shift e h, shifted e h)
 
 pub parted-most : (n e : ℕ) → 32 ≤ e → n / 4294967295 ≡ n / option (checkedShl 1 e) u32Max (λ f. f)
 parted-most n e h = rw (← factor-most e h)
@@ -108,4 +122,4 @@ age-some now was h = (refl, refl)
 pub younger-is : (span now was a : ℕ) → a ≡ now - was → ltb a span ≡ rule.younger span now was
 younger-is span now was a e = rw e (sym (younger-nanos span now was))
 
-pub ruleset timing = (needs, factor-shift, factor-most, parted-shift, parted-most, backoff-cap, backoff-whole, product-fits, later-start, later-turn, later-end, resend-is, age-none, age-some, younger-is)
+pub ruleset timing = (needs, factor-shift, power-shift, shift-some, factor-most, power-most, parted-shift, parted-most, backoff-cap, backoff-whole, product-fits, later-start, later-turn, later-end, resend-is, age-none, age-some, younger-is)

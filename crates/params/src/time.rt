@@ -4,6 +4,7 @@ ghost use Prim.Native.Nat.{_-_, _/_, _<_, min};
 ghost use Rattle.rules.specs.Base.{option};
 ghost use Rattle.rules.specs.Std.{fromNanos, durationMax, saturatingSince, saturatingAdd, checkedShl, u32Max};
 ghost use Rattle.rules.specs.Time as rule;
+ghost use Rattle.params.specs.Later.{power};
 
 // The furthest that a deadline reaches: 100 years.
 pub const CEILING: u64 = 3153600000000000000;
@@ -29,6 +30,7 @@ pub fn one_more(n: u32) -> u32
 // 1 shifted left by the exponent, and 2^32 - 1 from 32 on.
 pub fn factor(exponent: u32) -> u32
     ensures { λ r. ⌜ r ≡ option (checkedShl 1 exponent) u32Max (λ f. f) ⌝ }
+    ensures { λ r. ⌜ r ≡ power exponent ⌝ }
     ensures { λ r. ⌜ 0 < r ⌝ }
 {
     if exponent < FACTOR_BITS {

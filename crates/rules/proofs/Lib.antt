@@ -16,4 +16,5 @@ pub mod Bounds
 pub mod Size
 pub mod Records
 pub mod Time
+pub mod Numbers
 pub mod Rows

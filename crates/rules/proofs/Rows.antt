@@ -235,6 +235,7 @@ pub record Rows : Type 0 where
   -- 2 comes before 3: an output buffer under 10,240 bytes, for any record
   pub number-2 : (call [] 10_239 (from 1)) .number ≡ 2
   pub number-3 : (call [] 10_240 (from 1)) .number ≡ 3
+  pub number-3-new : new [] ≡ Refused 3
   -- 4: dial, msg1, replacement when the next link number is 2^64 - 1
   pub numbers-4 : numbers (lastReading - 1) [] (crowdDial 1 ∷ crowdDial 2 ∷ crowdMsg1 1 ∷ on 0 (Call.Replacement (crowdHello 1)) ∷ on 0 (Call.Abandon (lastReading - 1)) ∷ [])
       ≡ 0 ∷ 4 ∷ 4 ∷ 4 ∷ 0 ∷ []
@@ -283,6 +284,7 @@ rows = record {
   number-none = refl;
   number-2 = refl;
   number-3 = refl;
+  number-3-new = refl;
   numbers-4 = refl;
   numbers-5 = refl;
   numbers-6 = refl;

@@ -1,6 +1,6 @@
-use native.Mathlib.Omega.{arith}
 use lib.Dec.{lit≤}
-use Rattle.input_cursor.specs.Row.{stepping, span-yes, span-room}
+use native.Mathlib.Omega.{arith}
+use Rattle.input_cursor.specs.Row.{span-yes, span-room, stepping}
 use Rattle.input_cursor.proofs.next_span.Statement.{statement}
 use Rattle.input_cursor.proofs.next_span.Tie as tie
 
@@ -13,20 +13,20 @@ returns-2 c = (search stepping, record { small = lit≤ tt; room = omega arith }
 returns-3 : tie.Need-returns-3
 returns-3 c =
     let s = c .before .before .before .before .before .before .args .s .now in
-    let r = span-room _ _ s (c .before .before .before .message-span .ensures .0) (c .before .before .before .before .before .before .pre) (c .if2 .left) in (
-      span-yes _ _ s (c .before .before .before .message-span .ensures .0) (c .before .before .before .before .before .before .pre) (c .if2 .left) (c .before .before .if1 .left),
-      record { small = c .before .before .before .message-span .ensures .1; room = r },
+    let m = c .before .before .message-span .ensures in (
+      span-yes _ _ s (m .0) (c .before .before .before .before .before .before .pre) (c .if2 .left) (c .before .before .before .before .if1 .left),
+      record { small = m .1 .0; room = span-room _ _ s (m .0) (c .before .before .before .before .before .before .pre) (c .if2 .left) },
     )
 
 pub next-span-spec : {M : Type 1} → statement M
 next-span-spec =
     tie.close
     (tie.spec
+    returns
     (λ c. search stepping)
     (λ c. search stepping)
     (λ c. search stepping)
     (λ c κs. search stepping)
-    returns
     returns-2
     (λ c. search stepping)
     (λ c. search stepping)

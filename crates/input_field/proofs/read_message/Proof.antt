@@ -18,7 +18,7 @@ returns-2 c =
     let m = c .before .before .before .message-span in
     let s = c .before .before .before .before .before .args .rest .now in (
       message-copied s _ (m .ensures .0) (c .before .if1 .left) (c .take-128 .ensures),
-      message-fits s _ (m .ensures .0) (c .before .if1 .left) (c .take-128 .ensures) (m .ensures .1),
+      message-fits s _ (m .ensures .0) (c .before .if1 .left) (c .take-128 .ensures) (m .ensures .1 .0),
     )
 
 pub read-message-spec : {M : Type 1} → statement M

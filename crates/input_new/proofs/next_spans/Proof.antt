@@ -1,23 +1,33 @@
+use mathlib.Core.Bool.{true≢false}
+use mathlib.Core.Path.{refl}
+use native.Mathlib.Omega.{arith}
 use borrow.Author.Needs.{needs}
-use Rattle.lib_laws.specs.Follow.{follows-start, follows-step}
+use Rattle.input_cursor.specs.Follow.{follows-start, follows-step, follows-on, follows-off}
 use Rattle.input_new.specs.Begin.{spans}
 use Rattle.input_new.proofs.next_spans.Statement.{statement}
 use Rattle.input_new.proofs.next_spans.Tie as tie
 
 returns : tie.Need-returns
-returns c =
-    let f = c .before in
-    let e = f .before in
-    let d = e .before in
-    let m = d .before in
-    let b = m .before in
-    let a = b .before in
-    record {
-      is = λ k.
-          let x = follows-step _ (follows-step _ (follows-step _ (follows-start (spans k) _ _ _) (a .next-u64 .ensures)) (b .next-u642 .ensures)) (m .next-u643 .ensures) in
-          follows-step _ (follows-step _ (follows-step _ (follows-step _ x (d .next-u644 .ensures)) (e .next-u645 .ensures)) (f .next-u646 .ensures)) (c .next-u647 .ensures);
-      room = c .next-u647 .ensures .room;
-    }
+returns c = record {
+  is = λ k.
+      let f =
+          let x = follows-step _ (follows-step _ (follows-step _ (follows-start (spans k) _ _ _) (c .before .before .before .before .before .before .before .before .next-u64 .ensures)) (c .before .before .before .before .before .before .before .next-u642 .ensures)) (c .before .before .before .before .before .before .next-u643 .ensures) in
+          follows-step _ (follows-step _ (follows-step _ (follows-step _ x (c .before .before .before .before .before .next-u644 .ensures)) (c .before .before .before .before .next-u645 .ensures)) (c .before .before .before .next-u646 .ensures)) (c .before .before .next-u647 .ensures) in
+      follows-off f (c .if1 .taken);
+  room = omega arith;
+  off = λ z. refl;
+}
+
+returns-2 : tie.Need-returns-2
+returns-2 c = record {
+  is = λ k.
+      let f =
+          let x = follows-step _ (follows-step _ (follows-step _ (follows-start (spans k) _ _ _) (c .before .before .before .before .before .before .before .before .next-u64 .ensures)) (c .before .before .before .before .before .before .before .next-u642 .ensures)) (c .before .before .before .before .before .before .next-u643 .ensures) in
+          follows-step _ (follows-step _ (follows-step _ (follows-step _ x (c .before .before .before .before .before .next-u644 .ensures)) (c .before .before .before .before .next-u645 .ensures)) (c .before .before .before .next-u646 .ensures)) (c .before .before .next-u647 .ensures) in
+      follows-on f (c .if1 .left);
+  room = c .before .before .next-u647 .ensures .room;
+  off = λ z. absurd (true≢false z);
+}
 
 pub next-spans-spec : {M : Type 1} → statement M
 next-spans-spec =
@@ -30,4 +40,5 @@ next-spans-spec =
     (λ c κs. search needs)
     (λ c κs. search needs)
     (λ c κs. search needs)
-    returns)
+    returns
+    returns-2)
