@@ -54,12 +54,12 @@ module _ {A R : Type 0} {q : Reader A} {ok ok′ : Bool} {at at′ : ℕ} {s : L
 
 -- a reader answers no: it was off, or what is left does not read
 module _ {A R : Type 0} {p : Reader A} {ok : Bool} {at : ℕ} {s : List ℕ} where
-  pub stepped-off : {v : A} {r : R} → not ok ≡ true → Stepped p ok at s false v 0 r r
-  stepped-off h = let e : ok ≡ false = not-true ok h in record { is = rw e; room = omega arith; off = λ e. refl }
+  pub stepped-off : {v : A} {r : R} → ok ≡ false → Stepped p ok at s false v 0 r r
+  stepped-off h = record { is = rw h; room = omega arith; off = λ e. refl }
 
-  pub stepped-none : {v : A} {r : R} → not ok ≡ false → p (drop at s) ≡ none → Stepped p ok at s false v 0 r r
-  stepped-none h q = let e : ok ≡ true = not-false ok h in record { is = rw (e, q); room = omega arith; off = λ e. refl }
+  pub stepped-none : {v : A} {r : R} → ok ≡ true → p (drop at s) ≡ none → Stepped p ok at s false v 0 r r
+  stepped-none h q = record { is = rw (h, q); room = omega arith; off = λ e. refl }
 
   -- it read v in n bytes
-  pub stepped-some : {v : A} {r b : R} (n : ℕ) → not ok ≡ false → at + n ≤ length s → p (drop at s) ≡ some (v, drop n (drop at s)) → Stepped p ok at s true v (at + n) r b
-  stepped-some n h m q = let e : ok ≡ true = not-false ok h in record { is = rw (e, q, drop-drop); room = m; off = λ e. absurd (true≢false e) }
+  pub stepped-some : {v : A} {r b : R} (n : ℕ) → ok ≡ true → at + n ≤ length s → p (drop at s) ≡ some (v, drop n (drop at s)) → Stepped p ok at s true v (at + n) r b
+  stepped-some n h m q = record { is = rw (h, q, drop-drop); room = m; off = λ e. absurd (true≢false e) }

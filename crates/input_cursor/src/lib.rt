@@ -14,13 +14,15 @@ use input_field::read_u64;
 use lib_bytes::layout::U16;
 use lib_bytes::layout::U32;
 use lib_bytes::layout::U64;
+use node_addr::Addr;
 use node_addr::Digest;
 use node_addr::Message;
 use node_addr::NodeAddr;
 use node_addr::Pair;
-use node_addr::blank_message;
-use node_addr::blank_pair;
+use node_addr::TransportId;
+use node_addr::layout::ADDR_CAP;
 use node_addr::layout::DIGEST_LEN;
+use node_addr::layout::MESSAGE_CAP;
 use node_addr::layout::NODE_LEN;
 use node_addr::layout::PAIR_ADDR;
 ghost use mathlib.Core.Path.{_≡_};
@@ -100,26 +102,21 @@ pub fn next_peer(s: &[u8], ok: bool, at: usize) -> PeerAt
     requires { ⌜ at ≤ length (now s) ⌝ }
     ensures { λ r. ⌜ Stepped peer ok at (now (s .entry)) (r .ok) (r .value .0) (r .at) r noPeer ⌝ }
 {
-    if !ok {
-        return PeerAt {
-            ok: false,
-            value: NodeAddr([0u8; NODE_LEN]),
-            at: 0,
-        };
+    if ok {
+        let w = read_peer(&s[at..]);
+        if w.ok {
+            let value = w.value;
+            return PeerAt {
+                ok: true,
+                value: value,
+                at: at + NODE_LEN,
+            };
+        }
     }
-    let w = read_peer(&s[at..]);
-    if !w.ok {
-        return PeerAt {
-            ok: false,
-            value: NodeAddr([0u8; NODE_LEN]),
-            at: 0,
-        };
-    }
-    let value = w.value;
     PeerAt {
-        ok: true,
-        value: value,
-        at: at + NODE_LEN,
+        ok: false,
+        value: NodeAddr([0u8; NODE_LEN]),
+        at: 0,
     }
 }
 
@@ -128,26 +125,21 @@ pub fn next_digest(s: &[u8], ok: bool, at: usize) -> DigestAt
     requires { ⌜ at ≤ length (now s) ⌝ }
     ensures { λ r. ⌜ Stepped digest ok at (now (s .entry)) (r .ok) (r .value .0) (r .at) r noDigest ⌝ }
 {
-    if !ok {
-        return DigestAt {
-            ok: false,
-            value: Digest([0u8; DIGEST_LEN]),
-            at: 0,
-        };
+    if ok {
+        let w = read_digest(&s[at..]);
+        if w.ok {
+            let value = w.value;
+            return DigestAt {
+                ok: true,
+                value: value,
+                at: at + DIGEST_LEN,
+            };
+        }
     }
-    let w = read_digest(&s[at..]);
-    if !w.ok {
-        return DigestAt {
-            ok: false,
-            value: Digest([0u8; DIGEST_LEN]),
-            at: 0,
-        };
-    }
-    let value = w.value;
     DigestAt {
-        ok: true,
-        value: value,
-        at: at + DIGEST_LEN,
+        ok: false,
+        value: Digest([0u8; DIGEST_LEN]),
+        at: 0,
     }
 }
 
@@ -156,26 +148,20 @@ pub fn next_u64(s: &[u8], ok: bool, at: usize) -> U64At
     requires { ⌜ at ≤ length (now s) ⌝ }
     ensures { λ r. ⌜ Stepped (number 8) ok at (now (s .entry)) (r .ok) (r .value) (r .at) r noU64 ⌝ }
 {
-    if !ok {
-        return U64At {
-            ok: false,
-            value: 0,
-            at: 0,
-        };
+    if ok {
+        let w = read_u64(&s[at..]);
+        if w.ok {
+            return U64At {
+                ok: true,
+                value: w.value,
+                at: at + U64,
+            };
+        }
     }
-    let w = read_u64(&s[at..]);
-    if !w.ok {
-        return U64At {
-            ok: false,
-            value: 0,
-            at: 0,
-        };
-    }
-    let value = w.value;
     U64At {
-        ok: true,
-        value: value,
-        at: at + U64,
+        ok: false,
+        value: 0,
+        at: 0,
     }
 }
 
@@ -184,26 +170,20 @@ pub fn next_u32(s: &[u8], ok: bool, at: usize) -> U32At
     requires { ⌜ at ≤ length (now s) ⌝ }
     ensures { λ r. ⌜ Stepped lease ok at (now (s .entry)) (r .ok) (r .value) (r .at) r noU32 ⌝ }
 {
-    if !ok {
-        return U32At {
-            ok: false,
-            value: 0,
-            at: 0,
-        };
+    if ok {
+        let w = read_u32(&s[at..]);
+        if w.ok {
+            return U32At {
+                ok: true,
+                value: w.value,
+                at: at + U32,
+            };
+        }
     }
-    let w = read_u32(&s[at..]);
-    if !w.ok {
-        return U32At {
-            ok: false,
-            value: 0,
-            at: 0,
-        };
-    }
-    let value = w.value;
     U32At {
-        ok: true,
-        value: value,
-        at: at + U32,
+        ok: false,
+        value: 0,
+        at: 0,
     }
 }
 
@@ -212,26 +192,20 @@ pub fn next_byte(s: &[u8], ok: bool, at: usize) -> ByteAt
     requires { ⌜ at ≤ length (now s) ⌝ }
     ensures { λ r. ⌜ Stepped (number 1) ok at (now (s .entry)) (r .ok) (r .value) (r .at) r noByte ⌝ }
 {
-    if !ok {
-        return ByteAt {
-            ok: false,
-            value: 0,
-            at: 0,
-        };
+    if ok {
+        let w = read_byte(&s[at..]);
+        if w.ok {
+            return ByteAt {
+                ok: true,
+                value: w.value,
+                at: at + 1,
+            };
+        }
     }
-    let w = read_byte(&s[at..]);
-    if !w.ok {
-        return ByteAt {
-            ok: false,
-            value: 0,
-            at: 0,
-        };
-    }
-    let value = w.value;
     ByteAt {
-        ok: true,
-        value: value,
-        at: at + 1,
+        ok: false,
+        value: 0,
+        at: 0,
     }
 }
 
@@ -242,26 +216,20 @@ pub fn next_code(s: &[u8], ok: bool, at: usize, k: u8) -> ByteAt
     ensures { λ r. ⌜ Stepped (below k) ok at (now (s .entry)) (r .ok) (r .value) (r .at) r noByte ⌝ }
     ensures { λ r. ⌜ r .value < k ⌝ }
 {
-    if !ok {
-        return ByteAt {
-            ok: false,
-            value: 0,
-            at: 0,
-        };
+    if ok {
+        let w = read_code(&s[at..], k);
+        if w.ok {
+            return ByteAt {
+                ok: true,
+                value: w.value,
+                at: at + 1,
+            };
+        }
     }
-    let w = read_code(&s[at..], k);
-    if !w.ok {
-        return ByteAt {
-            ok: false,
-            value: 0,
-            at: 0,
-        };
-    }
-    let value = w.value;
     ByteAt {
-        ok: true,
-        value: value,
-        at: at + 1,
+        ok: false,
+        value: 0,
+        at: 0,
     }
 }
 
@@ -270,36 +238,19 @@ pub fn next_flag(s: &[u8], ok: bool, at: usize) -> FlagAt
     requires { ⌜ at ≤ length (now s) ⌝ }
     ensures { λ r. ⌜ Stepped flag ok at (now (s .entry)) (r .ok) (r .value) (r .at) r noFlag ⌝ }
 {
-    if !ok {
-        return FlagAt {
-            ok: false,
-            value: false,
-            at: 0,
-        };
+    if ok {
+        let w = read_flag(&s[at..]);
+        if w.ok {
+            return FlagAt {
+                ok: true,
+                value: w.value,
+                at: at + 1,
+            };
+        }
     }
-    let w = read_flag(&s[at..]);
-    if !w.ok {
-        return FlagAt {
-            ok: false,
-            value: false,
-            at: 0,
-        };
-    }
-    let value = w.value;
     FlagAt {
-        ok: true,
-        value: value,
-        at: at + 1,
-    }
-}
-
-fn no_pair() -> PairAt
-    ensures { λ r. ⌜ r ≡ noPair ⌝ }
-{
-    let blank = blank_pair();
-    PairAt {
         ok: false,
-        value: blank,
+        value: false,
         at: 0,
     }
 }
@@ -310,19 +261,28 @@ pub fn next_pair(s: &[u8], ok: bool, at: usize) -> PairAt
     ensures { λ r. ⌜ Stepped pair ok at (now (s .entry)) (r .ok) (viewPair (r .value)) (r .at) r noPair ⌝ }
     ensures { λ r. ⌜ FitPair (r .value) ⌝ }
 {
-    if !ok {
-        return no_pair();
+    if ok {
+        let w = read_pair(&s[at..]);
+        if w.ok {
+            let value = w.value;
+            let n = value.addr.len;
+            return PairAt {
+                ok: true,
+                value: value,
+                at: at + (PAIR_ADDR + n),
+            };
+        }
     }
-    let w = read_pair(&s[at..]);
-    if !w.ok {
-        return no_pair();
-    }
-    let value = w.value;
-    let n = value.addr.len;
     PairAt {
-        ok: true,
-        value: value,
-        at: at + (PAIR_ADDR + n),
+        ok: false,
+        value: Pair {
+            transport: TransportId(0),
+            addr: Addr {
+                len: 0,
+                bytes: [0u8; ADDR_CAP],
+            },
+        },
+        at: 0,
     }
 }
 
@@ -332,29 +292,17 @@ pub fn skip_pair(s: &[u8], ok: bool, at: usize) -> PastAt
     ensures { λ r. ⌜ Stepped pair ok at (now (s .entry)) (r .ok) (pairHere (drop at (now (s .entry)))) (r .at) r noPast ⌝ }
     ensures { λ r. ⌜ (r .ok ≡ true → PairIn (now (s .entry)) at) ⌝ }
 {
-    if !ok {
-        return PastAt { ok: false, at: 0 };
+    if ok {
+        let w = pair_span(&s[at..]);
+        if w.ok {
+            let n = w.len;
+            return PastAt {
+                ok: true,
+                at: at + (PAIR_ADDR + n),
+            };
+        }
     }
-    let w = pair_span(&s[at..]);
-    if !w.ok {
-        return PastAt { ok: false, at: 0 };
-    }
-    let n = w.len;
-    PastAt {
-        ok: true,
-        at: at + (PAIR_ADDR + n),
-    }
-}
-
-fn no_message() -> MessageAt
-    ensures { λ r. ⌜ r ≡ noMessage ⌝ }
-{
-    let blank = blank_message();
-    MessageAt {
-        ok: false,
-        value: blank,
-        at: 0,
-    }
+    PastAt { ok: false, at: 0 }
 }
 
 // A message.
@@ -363,19 +311,25 @@ pub fn next_message(s: &[u8], ok: bool, at: usize) -> MessageAt
     ensures { λ r. ⌜ Stepped message ok at (now (s .entry)) (r .ok) (viewMessage (r .value)) (r .at) r noMessage ⌝ }
     ensures { λ r. ⌜ FitMessage (r .value) ⌝ }
 {
-    if !ok {
-        return no_message();
+    if ok {
+        let w = read_message(&s[at..]);
+        if w.ok {
+            let value = w.value;
+            let n = value.len;
+            return MessageAt {
+                ok: true,
+                value: value,
+                at: at + (U16 + n),
+            };
+        }
     }
-    let w = read_message(&s[at..]);
-    if !w.ok {
-        return no_message();
-    }
-    let value = w.value;
-    let n = value.len;
     MessageAt {
-        ok: true,
-        value: value,
-        at: at + (U16 + n),
+        ok: false,
+        value: Message {
+            len: 0,
+            bytes: [0u8; MESSAGE_CAP],
+        },
+        at: 0,
     }
 }
 
@@ -385,29 +339,24 @@ pub fn next_span(s: &[u8], ok: bool, at: usize) -> SpanAt
     ensures { λ r. ⌜ Stepped message ok at (now (s .entry)) (r .ok) (spanOf (now (s .entry)) (r .value)) (r .at) r noSpan ⌝ }
     ensures { λ r. ⌜ FitSpan (now (s .entry)) (r .value) ⌝ }
 {
-    if !ok {
-        return SpanAt {
-            ok: false,
-            value: Span { at: 0, len: 0 },
-            at: 0,
-        };
+    if ok {
+        let w = message_span(&s[at..]);
+        if w.ok {
+            let n = w.len;
+            return SpanAt {
+                ok: true,
+                value: Span {
+                    at: at + U16,
+                    len: n,
+                },
+                at: at + (U16 + n),
+            };
+        }
     }
-    let w = message_span(&s[at..]);
-    if !w.ok {
-        return SpanAt {
-            ok: false,
-            value: Span { at: 0, len: 0 },
-            at: 0,
-        };
-    }
-    let n = w.len;
     SpanAt {
-        ok: true,
-        value: Span {
-            at: at + U16,
-            len: n,
-        },
-        at: at + (U16 + n),
+        ok: false,
+        value: Span { at: 0, len: 0 },
+        at: 0,
     }
 }
 

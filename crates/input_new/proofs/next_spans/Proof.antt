@@ -11,8 +11,8 @@ returns : tie.Need-returns
 returns c = record {
   is = λ k.
       let f =
-          let x = follows-step _ (follows-step _ (follows-step _ (follows-start (spans k) _ _ _) (c .before .before .before .before .before .before .before .before .next-u64 .ensures)) (c .before .before .before .before .before .before .before .next-u642 .ensures)) (c .before .before .before .before .before .before .next-u643 .ensures) in
-          follows-step _ (follows-step _ (follows-step _ (follows-step _ x (c .before .before .before .before .before .next-u644 .ensures)) (c .before .before .before .before .next-u645 .ensures)) (c .before .before .before .next-u646 .ensures)) (c .before .before .next-u647 .ensures) in
+      let x = follows-step _ (follows-step _ (follows-step _ (follows-start (spans k) _ _ _) (c .before .before .before .before .before .before .before .before .next-u64 .ensures)) (c .before .before .before .before .before .before .before .next-u642 .ensures)) (c .before .before .before .before .before .before .next-u643 .ensures) in
+      follows-step _ (follows-step _ (follows-step _ (follows-step _ x (c .before .before .before .before .before .next-u644 .ensures)) (c .before .before .before .before .next-u645 .ensures)) (c .before .before .before .next-u646 .ensures)) (c .before .before .next-u647 .ensures) in
       follows-off f (c .if1 .taken);
   room = omega arith;
   off = λ z. refl;
@@ -22,8 +22,8 @@ returns-2 : tie.Need-returns-2
 returns-2 c = record {
   is = λ k.
       let f =
-          let x = follows-step _ (follows-step _ (follows-step _ (follows-start (spans k) _ _ _) (c .before .before .before .before .before .before .before .before .next-u64 .ensures)) (c .before .before .before .before .before .before .before .next-u642 .ensures)) (c .before .before .before .before .before .before .next-u643 .ensures) in
-          follows-step _ (follows-step _ (follows-step _ (follows-step _ x (c .before .before .before .before .before .next-u644 .ensures)) (c .before .before .before .before .next-u645 .ensures)) (c .before .before .before .next-u646 .ensures)) (c .before .before .next-u647 .ensures) in
+      let x = follows-step _ (follows-step _ (follows-step _ (follows-start (spans k) _ _ _) (c .before .before .before .before .before .before .before .before .next-u64 .ensures)) (c .before .before .before .before .before .before .before .next-u642 .ensures)) (c .before .before .before .before .before .before .next-u643 .ensures) in
+      follows-step _ (follows-step _ (follows-step _ (follows-step _ x (c .before .before .before .before .before .next-u644 .ensures)) (c .before .before .before .before .next-u645 .ensures)) (c .before .before .before .next-u646 .ensures)) (c .before .before .next-u647 .ensures) in
       follows-on f (c .if1 .left);
   room = c .before .before .next-u647 .ensures .room;
   off = λ z. absurd (true≢false z);
