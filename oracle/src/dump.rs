@@ -1,7 +1,6 @@
-//! The final table of a tape, in a canonical form. Nothing for a tape that
-//! makes no table. Integers big-endian; a list is a count byte and its
-//! entries, in key order; an option a flag byte and with 1 the value; pairs,
-//! messages and flags as in the records; link numbers as on the tape.
+//! A table in a canonical form. Integers big-endian; a list is a count byte
+//! and its entries, in key order; an option a flag byte and with 1 the value;
+//! pairs, messages and flags as in the records; link numbers as on the tape.
 //!
 //!   me 16; settings in the order of form 1 (7 times 8, silent 4, resends 4,
 //!   replays 1, counted 1, pending 8); next link number 8
@@ -22,16 +21,9 @@ use crate::proto::settle::legs::{Kind, Leg};
 use crate::proto::settle::links::{Dir, Holder, LinkNo, LinkRec, Proven};
 use crate::proto::settle::params::Params;
 use crate::proto::settle::table::Held;
-use crate::tape;
 use crate::time::{Clock, Duration};
 use crate::write::{Writer, count};
 use crate::identity::NodeAddr;
-
-/// The table that `bytes` leave.
-pub fn after(bytes: &[u8]) -> Vec<u8> {
-    let (tape, _) = tape::steps(bytes);
-    tape.node.as_ref().map(dump).unwrap_or_default()
-}
 
 pub fn dump(node: &Node) -> Vec<u8> {
     let t = &node.table;

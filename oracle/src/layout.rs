@@ -1,7 +1,6 @@
-//! The table that a tape leaves, in the 45,478 bytes that a lent table has
-//! (docs/ARCHITECTURE.md, "The code"): the head, then links, legs, held and
-//! gates, each 32 entries of one width and a count byte, zeros elsewhere.
-//! Nothing for a tape that makes no table.
+//! A table in the 45,478 bytes that a lent one has (docs/ARCHITECTURE.md,
+//! "The layout"): the head, then links, legs, held and gates, each 32 entries
+//! of one width and a count byte, zeros elsewhere.
 
 use crate::dump::settings;
 use crate::node::Node;
@@ -10,16 +9,10 @@ use crate::proto::settle::gates::oracle_view::Remembered;
 use crate::proto::settle::legs::{Kind, Leg};
 use crate::proto::settle::links::{Dir, Holder, LinkNo, LinkRec, Pair, Proven};
 use crate::proto::settle::table::Held;
-use crate::tape;
 use crate::time::Clock;
 use crate::write::Writer;
 
-pub fn after(bytes: &[u8]) -> Vec<u8> {
-    let (tape, _) = tape::steps(bytes);
-    tape.node.as_ref().map(layout).unwrap_or_default()
-}
-
-fn layout(node: &Node) -> Vec<u8> {
+pub fn layout(node: &Node) -> Vec<u8> {
     let t = &node.table;
     let mut w = writer(node);
     w.peer(t.me());

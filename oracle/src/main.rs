@@ -54,11 +54,11 @@ use std::io::{Read, Write};
 use std::process::ExitCode;
 
 const USAGE: &str = "usage: oracle run < tape > out
-       oracle table < tape > dump
-       oracle layout < tape > table  (the same in the bytes of a lent table)
+       oracle table < tape > dumps  (of the table after each record)
+       oracle layout < tape > tables  (the same in the bytes of a lent table)
        oracle generate PROFILE SEED [CALLS] > tape
        oracle cover PROFILE|all FROM TO [CALLS]
-       oracle cases PROFILE FROM TO CALLS  (a line for each seed: seed, tape, output, dump in hexadecimal)
+       oracle cases PROFILE FROM TO CALLS  (a line for each seed: seed, tape, output, dumps in hexadecimal)
        oracle profiles
        oracle replay-set > tapes  (stored tapes)
        oracle replay < tapes > what settle-tape writes for each
@@ -84,8 +84,8 @@ fn main() -> ExitCode {
 fn run(words: &[&str]) -> Option<Vec<u8>> {
     match words {
         ["run"] => Some(tape::run(&input())),
-        ["table"] => Some(dump::after(&input())),
-        ["layout"] => Some(layout::after(&input())),
+        ["table"] => Some(tape::tables(&input(), dump::dump)),
+        ["layout"] => Some(tape::tables(&input(), layout::layout)),
         #[cfg(settle_library)]
         ["bench", rest @ ..] => bench::run(rest),
         ["replay-set"] => stored::set(),
@@ -110,13 +110,13 @@ fn run(words: &[&str]) -> Option<Vec<u8>> {
     }
 }
 
-/// One line for each seed of `from..to`: its tape, output and final table.
+/// One line for each seed of `from..to`: its tape, output and the tables.
 fn cases(name: &str, from: u64, to: u64, calls: usize) -> Option<Vec<u8>> {
     let mut out = String::new();
     for seed in from..to {
         let bytes = generate::tape(name, seed, Some(calls))?;
         let told = tape::run(&bytes);
-        let left = dump::after(&bytes);
+        let left = tape::tables(&bytes, dump::dump);
         out += &format!("{seed} {} {} {}\n", hex(&bytes), hex(&told), hex(&left));
     }
     Some(out.into_bytes())

@@ -22,11 +22,16 @@ impl Tape {
     /// Every whole record of `bytes`, after what an earlier feed left over.
     pub fn feed(&mut self, bytes: &[u8]) -> Vec<Step> {
         self.rest.extend(bytes);
-        let mut steps = Vec::new();
-        while !self.ended && let Some(body) = self.cut() {
-            steps.push(self.step(&body));
+        std::iter::from_fn(|| self.next()).collect()
+    }
+
+    /// The next whole record.
+    fn next(&mut self) -> Option<Step> {
+        if self.ended {
+            return None;
         }
-        steps
+        let body = self.cut()?;
+        Some(self.step(&body))
     }
 
     /// The input ends: a cut last record gives 3.
@@ -79,6 +84,17 @@ pub fn steps(bytes: &[u8]) -> (Tape, Vec<Step>) {
     let mut steps = tape.feed(bytes);
     steps.extend(tape.end());
     (tape, steps)
+}
+
+/// What `told` makes of the table after each record, a cut last one too, one
+/// behind another. Nothing where there is no table.
+pub fn tables(bytes: &[u8], told: fn(&Node) -> Vec<u8>) -> Vec<u8> {
+    let mut tape = Tape { rest: bytes.to_vec(), ..Tape::default() };
+    let mut out = Vec::new();
+    while tape.next().or_else(|| tape.end()).is_some() {
+        out.extend(tape.node.as_ref().map(told).unwrap_or_default());
+    }
+    out
 }
 
 /// What the program writes.
