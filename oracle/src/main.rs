@@ -50,7 +50,7 @@ mod stored;
 mod tape;
 mod write;
 
-use std::io::{Read, Write};
+use std::io::{ErrorKind, Read, Write};
 use std::process::ExitCode;
 
 const USAGE: &str = "usage: oracle run < tape > out
@@ -70,14 +70,20 @@ fn main() -> ExitCode {
     let args: Vec<String> = std::env::args().skip(1).collect();
     let words: Vec<&str> = args.iter().map(String::as_str).collect();
     match run(&words) {
-        Some(out) => {
-            std::io::stdout().write_all(&out).expect("standard output");
-            ExitCode::SUCCESS
-        }
+        Some(out) => finish(&out),
         None => {
             eprintln!("{USAGE}");
             ExitCode::from(2)
         }
+    }
+}
+
+/// Who reads the output may stop before its end.
+fn finish(out: &[u8]) -> ExitCode {
+    match std::io::stdout().write_all(out) {
+        Ok(()) => ExitCode::SUCCESS,
+        Err(e) if e.kind() == ErrorKind::BrokenPipe => ExitCode::FAILURE,
+        Err(e) => panic!("standard output: {e}"),
     }
 }
 
