@@ -46,6 +46,7 @@ mod plan;
 mod profile;
 mod random;
 mod record;
+mod script;
 mod stored;
 mod tape;
 mod write;
@@ -64,7 +65,8 @@ const USAGE: &str = "usage: oracle run < tape > out
        oracle replay < tapes > what settle-tape writes for each
        oracle replay-cover < tapes > what they reach
        oracle fields-set > cases  (slices for readers of records)
-       oracle fields < cases > what is read in each";
+       oracle fields < cases > what is read in each
+       oracle script CRATE < script > each line with its answer  (test_gates, test_links_legs, test_params_held)";
 
 fn main() -> ExitCode {
     let args: Vec<String> = std::env::args().skip(1).collect();
@@ -97,6 +99,7 @@ fn run(words: &[&str]) -> Option<Vec<u8>> {
         ["replay-set"] => stored::set(),
         ["replay"] => stored::run(&input()),
         ["replay-cover"] => stored::reached(&input()),
+        ["script", name] => script::told(name, &input()),
         ["fields-set"] => Some(fields::set()),
         ["fields"] => fields::told(&input()),
         ["profiles"] => Some(format!("{}\n", profile::NAMES.join(" ")).into_bytes()),

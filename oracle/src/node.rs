@@ -5,6 +5,7 @@ use std::collections::BTreeSet;
 use crate::identity::NodeAddr;
 use crate::proto::settle::links::{LinkNo, Pair};
 use crate::proto::settle::output::Output;
+use crate::proto::settle::params::Params;
 use crate::proto::settle::table::Table;
 use crate::record::{self, Call, Record};
 use crate::time::Clock;
@@ -18,6 +19,8 @@ pub const PATHS: u8 = 7;
 
 const ROOM: usize = 32;
 const PATHS_ROOM: usize = 4;
+const COUNTED: usize = 8;
+const REPLAYS: usize = 8;
 
 pub struct Node {
     pub table: Table<Clock>,
@@ -33,7 +36,7 @@ impl Node {
         let Some(Record::New(n)) = record::read(bytes, 0) else {
             return Err(RECORD);
         };
-        if n.params.counted == 0 || n.params.counted > 8 || n.params.replays > 8 {
+        if !in_range(&n.params) {
             return Err(SETTINGS);
         }
         Ok(Node {
@@ -58,7 +61,7 @@ impl Node {
             self.room(peer)?;
         }
         if let Call::Path(link, pair, _) = &call {
-            self.path_room(*link, pair)?;
+            path_room(&self.table, *link, pair)?;
         }
         let ends = matches!(call, Call::Close | Call::Release(..));
         let mut next = self.table.copy();
@@ -106,17 +109,6 @@ impl Node {
         Ok(())
     }
 
-    fn path_room(&self, link: LinkNo, pair: &Pair) -> Result<(), u8> {
-        let Some(r) = self.table.links().get(link) else {
-            return Ok(());
-        };
-        let known = r.paths.iter().any(|(p, _)| p == pair);
-        if !known && r.paths.len() >= PATHS_ROOM {
-            return Err(PATHS);
-        }
-        Ok(())
-    }
-
     /// The peers that are held, have a leg, or are remembered.
     pub fn places(&self) -> BTreeSet<NodeAddr> {
         let held = self.table.holders().keys().copied();
@@ -131,6 +123,23 @@ impl Node {
         let links = self.table.links();
         *links.index() == links.derived() && self.table.replies() == self.table.legs().answering()
     }
+}
+
+/// Whether the settings are within document 01's limits.
+pub fn in_range(p: &Params) -> bool {
+    (1..=COUNTED).contains(&p.counted) && p.replays <= REPLAYS
+}
+
+/// Room for the pair among the link's paths.
+pub fn path_room(table: &Table<Clock>, link: LinkNo, pair: &Pair) -> Result<(), u8> {
+    let Some(r) = table.links().get(link) else {
+        return Ok(());
+    };
+    let known = r.paths.iter().any(|(p, _)| p == pair);
+    if !known && r.paths.len() >= PATHS_ROOM {
+        return Err(PATHS);
+    }
+    Ok(())
 }
 
 fn overlisted(table: &Table<Clock>, outputs: &[Output]) -> usize {

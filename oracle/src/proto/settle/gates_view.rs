@@ -1,4 +1,4 @@
-//! What the oracle reads of the gates' memories.
+//! What the oracle reads of the gates' memories, and a stamp by itself.
 
 use super::*;
 
@@ -18,6 +18,11 @@ pub struct Silenced<I> {
 }
 
 impl<I: Instant> Gates<I> {
+    /// A restart or replacement of a heard peering was accepted.
+    pub fn give_up(&mut self, peer: NodeAddr, now: I) {
+        self.peers.entry(peer).or_default().stamp = Some(now);
+    }
+
     /// The memories in the order of peers, without those that remember
     /// nothing.
     pub fn memories(&self) -> Vec<Remembered<I>> {

@@ -1,4 +1,4 @@
-//! What the oracle reads of the legs, and a copy of them.
+//! What the oracle reads of the legs, and a copy of them; time as they reckon it.
 
 use super::*;
 
@@ -13,6 +13,19 @@ impl<I: Instant> Leg<I> {
 
     pub fn index(&self) -> u32 {
         self.lease.0
+    }
+
+    /// When it next needs a poll.
+    pub fn polled(&self) -> I {
+        self.wake()
+    }
+
+    pub fn overdue(&self, now: I) -> bool {
+        due(self.deadline, now)
+    }
+
+    pub fn resend_due(&self, now: I) -> bool {
+        self.next.is_some_and(|n| due(n, now))
     }
 
     fn copy(&self) -> Self {
@@ -40,4 +53,12 @@ impl<I: Instant> Legs<I> {
             legs: self.legs.iter().map(|(l, g)| (*l, g.copy())).collect(),
         }
     }
+}
+
+pub fn until<I: Instant>(now: I, span: Duration) -> I {
+    deadline(now, span)
+}
+
+pub fn doubled(exponent: u32, base: Duration, cap: Duration) -> Duration {
+    backoff(exponent, base, cap)
 }

@@ -1,4 +1,4 @@
-//! What the oracle reads of the link records.
+//! What the oracle reads of the link records, and a link by its number.
 
 use super::*;
 
@@ -15,5 +15,18 @@ impl Links {
     /// Whether a live record uses the connection at `pair`.
     pub fn used(&self, pair: &Pair) -> bool {
         self.recs.values().any(|r| r.uses(pair))
+    }
+
+    /// Opens the link with that number.
+    pub fn open_as(&mut self, no: LinkNo, setup: Pair, dir: Dir) {
+        self.next = no.0;
+        self.open(setup, dir, Holder::Leg);
+    }
+}
+
+impl LinkRec {
+    /// Whether this link uses the connection at `pair`.
+    pub fn uses_pair(&self, pair: &Pair) -> bool {
+        self.uses(pair)
     }
 }

@@ -1,4 +1,5 @@
-//! What the oracle reads of a table, a copy of it, and the calls by kind.
+//! What the oracle reads of a table, a copy of it, and the calls by kind; parts
+//! of it by themselves, for scripts.
 
 use super::*;
 use crate::record::Call;
@@ -48,6 +49,37 @@ impl Table<Clock> {
             replaces: a.replaces,
             sent: a.sent,
         })
+    }
+
+    pub fn links_mut(&mut self) -> &mut Links {
+        &mut self.links
+    }
+
+    pub fn legs_mut(&mut self) -> &mut Legs<Clock> {
+        &mut self.legs
+    }
+
+    pub fn install(&mut self, peer: NodeAddr, held: Held<Clock>) {
+        self.held.insert(peer, held);
+    }
+
+    /// An answer leg with its entry.
+    pub fn answer_as(&mut self, start: Start, msg2: Vec<u8>, reply: Reply, now: Clock) {
+        let Reply { ephemeral, epoch, replaces, sent } = reply;
+        self.answered.insert(start.link, Answered { ephemeral, epoch, replaces, sent });
+        let old = self.legs.answer(start, msg2, now, &self.params);
+        assert!(old.is_none(), "a new link");
+    }
+
+    /// A leg goes, its link stays.
+    pub fn drop_leg(&mut self, link: LinkNo) {
+        self.legs.take(link);
+        self.answered.remove(&link);
+    }
+
+    /// The link of the answer that is stored for `bytes` from `from`.
+    pub fn stored_at(&self, from: &Pair, bytes: &[u8]) -> Option<LinkNo> {
+        self.stored(from, bytes).map(|(link, _)| link)
     }
 
     /// How many answers are on record; as many as there are answer legs.
