@@ -1,3 +1,6 @@
 pub mod Layout
-pub mod Turn
-pub mod Feed
+pub mod Session
+pub mod Cut
+pub mod Within
+pub mod Step
+pub mod Run

@@ -1,4 +1,4 @@
-// A tape run: records in from standard input, outputs and Done out. `run_call` is what matters, and is proved against the rules' tape.
-pub mod feed;
+// A tape run: records in, outputs and Done out.
+pub mod cut;
 pub mod layout;
-pub mod record;
+pub mod session;
