@@ -77,14 +77,21 @@ module _ {s t₀ o₀ : Bytes} {p : Phase} {at len : ℕ} {t o : Bytes} (g : Goi
       records-first (drop at s) (omega (arith, length-drop at s))
       ∙ ap (λ (d : Bytes). nextOf s at ∷ recordsOf d) (drop-drop (extent (drop at s)) at s)
 
-  -- where the next record ends
-  pub next-end : {n : ℕ} → n ≡ extent (take (length s - at) (drop at s)) → at + n ≤ length s
-  next-end {n} e =
-      let f : n ≡ extent (drop at s) = e ∙ ap extent (rest-of at s) in
-      omega (arith, (ends (drop at s)) .within, length-drop at s, g .place)
+  module _ {m : ℕ} (e : m ≡ extent (take (length s - at) (drop at s))) where
+    next-size : m ≡ extent (drop at s)
+    next-size = e ∙ ap extent (rest-of at s)
 
-  pub next-is : {n : ℕ} → n ≡ extent (take (length s - at) (drop at s)) → take (at + n - at) (drop at s) ≡ nextOf s at
-  next-is {n} e = let f : at + n - at ≡ extent (drop at s) = omega (arith, e ∙ ap extent (rest-of at s)) in ap (λ (k : ℕ). take k (drop at s)) f
+    -- the next record ends within the tape, and has a byte
+    pub next-end : at + m ≤ length s
+    next-end = omega (arith, next-size, (ends (drop at s)) .within, length-drop at s, g .place)
+
+    pub next-some : at < length s → 0 < m
+    next-some h =
+        let d : 0 < length (drop at s) = omega (arith, length-drop at s, h) in
+        omega (arith, next-size, (ends (drop at s)) .some d)
+
+    next-is : take (at + m - at) (drop at s) ≡ nextOf s at
+    next-is = let f : at + m - at ≡ extent (drop at s) = omega (arith, next-size) in ap (λ (k : ℕ). take k (drop at s)) f
 
   pub rest-size : length (restOf o len) ≡ length o - len
   rest-size = ap length (rest-of len o) ∙ length-drop len o
@@ -96,7 +103,7 @@ module _ {s t₀ o₀ : Bytes} {p : Phase} {at len : ℕ} {t o : Bytes} (g : Goi
   rest-is = rest-of len o ∙ ap (λ (x : Bytes). drop len x) (g .bytes) ∙ drop-at (g .written) (drop len o₀) len (sym (g .size))
 
   module _ {r t′ b : Bytes} {q : Phase} {n : ℕ} (a : Steps p t r (restOf o len) t′ b q n) (k : length b ≡ length (restOf o len)) where
-    step-size : n ≤ length o - len
+    pub step-size : n ≤ length o - len
     step-size = omega (arith, k, rest-size, ap length (a .bytes), length-append ((next r (stateOf p t)) .0) (drop n (restOf o len)), a .size)
 
     left-next : r ≡ nextOf s at → at < length s → outLen ≤ length o - len
@@ -119,7 +126,7 @@ module _ {s t₀ o₀ : Bytes} {p : Phase} {at len : ℕ} {t o : Bytes} (g : Goi
         ∙ ap (λ (z : Bytes). g .written ++ z) (ap (λ (z : Bytes). b ++ z) none ∙ append-nil b ∙ a .bytes ∙ ap (λ (z : Bytes). w ++ drop n z) rest-is ∙ ap (λ (z : Bytes). w ++ z) (drop-drop n len o₀))
         ∙ sym (append-assoc (g .written) w (drop (len + n) o₀))
 
-    pub going-turn : r ≡ nextOf s at → at < length s → outLen ≤ length o - len → length t′ ≡ length t → Going s t₀ o₀ q (at + extent (drop at s)) (len + n) t′ (putMid len (length o - len) o b)
+    going-turn : r ≡ nextOf s at → at < length s → outLen ≤ length o - len → length t′ ≡ length t → Going s t₀ o₀ q (at + extent (drop at s)) (len + n) t′ (putMid len (length o - len) o b)
     going-turn e h m l =
         let w : Bytes = (next r (stateOf p t)) .0 in
         let u : Bytes × List Bytes × State = within (length o₀ - (len + n)) (recordsOf (drop (at + extent (drop at s)) s)) (stateOf q t′) in
@@ -138,6 +145,13 @@ module _ {s t₀ o₀ : Bytes} {p : Phase} {at len : ℕ} {t o : Bytes} (g : Goi
           left = a .left;
           kept = λ z. a .kept z ∙ g .kept (λ y. z (stays a y));
         }
+
+  -- a turn: the record of m bytes that is next
+  pub going-step : {m : ℕ} {t′ b : Bytes} {q : Phase} {n : ℕ} → m ≡ extent (take (length s - at) (drop at s)) → at < length s → outLen ≤ length o - len
+      → Steps p t (take (at + m - at) (drop at s)) (restOf o len) t′ b q n → length b ≡ length (restOf o len) → length t′ ≡ length t
+      → Going s t₀ o₀ q (at + m) (len + n) t′ (putMid len (length o - len) o b)
+  going-step {m} {t′} {b} {q} {n} e h f a k l =
+      subst (λ (i : ℕ). Going s t₀ o₀ q (at + i) (len + n) t′ (putMid len (length o - len) o b)) (sym (next-size e)) (going-turn a k (next-is e) h f l)
 
   -- nothing more is written, and the records l are left
   ran : (l : List Bytes) → within (length o₀ - len) (recordsOf (drop at s)) (stateOf p t) ≡ ([], l, stateOf p t) → Runs s t₀ o₀ t o p len (empty l)

@@ -1,4 +1,5 @@
 // A tape run: records in, outputs and Done out.
 pub mod cut;
 pub mod layout;
+pub mod run;
 pub mod session;
