@@ -8,5 +8,5 @@ fn main() {
     let mut table = [0u8; TABLE_LEN];
     let mut buf = [0u8; RECORD_LEN];
     let mut out = [0u8; OUT_LEN];
-    run_tape(&mut table, &mut buf, &mut out, u64::MAX, true);
+    run_tape(&mut table, &mut buf, &mut out);
 }

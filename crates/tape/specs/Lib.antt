@@ -4,3 +4,4 @@ pub mod Cut
 pub mod Within
 pub mod Step
 pub mod Run
+pub mod Feed

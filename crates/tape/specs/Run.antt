@@ -15,7 +15,7 @@ use Rattle.tape.specs.Layout.{outLen}
 use Rattle.tape.specs.Session.{State, Before, next}
 use Rattle.tape.specs.Cut.{recordsOf, ends, records-first, records-none}
 use Rattle.tape.specs.Within.{behind, within, within-full, within-next}
-use Rattle.tape.specs.Step.{stateOf, before-not, Steps, stays}
+use Rattle.tape.specs.Step.{stateOf, Steps, step-fits, before-not, stays}
 use Rattle.tape.specs.declared.session.Phase.{Phase}
 use Rattle.tape.specs.declared.session.Phase.the-variants as phase
 
@@ -104,7 +104,7 @@ module _ {s t₀ o₀ : Bytes} {p : Phase} {at len : ℕ} {t o : Bytes} (g : Goi
 
   module _ {r t′ b : Bytes} {q : Phase} {n : ℕ} (a : Steps p t r (restOf o len) t′ b q n) (k : length b ≡ length (restOf o len)) where
     pub step-size : n ≤ length o - len
-    step-size = omega (arith, k, rest-size, ap length (a .bytes), length-append ((next r (stateOf p t)) .0) (drop n (restOf o len)), a .size)
+    step-size = omega (arith, k, rest-size, step-fits a)
 
     left-next : r ≡ nextOf s at → at < length s → outLen ≤ length o - len
         → within (length o₀ - len) (recordsOf (drop at s)) (stateOf p t) ≡ behind ((next r (stateOf p t)) .0) (within (length o₀ - (len + n)) (recordsOf (drop (at + extent (drop at s)) s)) (stateOf q t′))

@@ -63,6 +63,10 @@ pub record Steps (p : Phase) (t r o t′ o′ : Bytes) (q : Phase) (n : ℕ) : T
   pub kept : (q ≡ phase.Running → ⊥) → t′ ≡ t
   pub by : By p t r t′ q
 
+-- what is written lies in the buffer
+pub step-fits : {p q : Phase} {t r o t′ o′ : Bytes} {n : ℕ} → Steps p t r o t′ o′ q n → n ≤ length o′
+step-fits {p} {t = t} {r} {o} {n = n} a = omega (arith, ap length (a .bytes), length-append ((next r (stateOf p t)) .0) (drop n o), a .size)
+
 -- ---- how it is met
 
 pub before-not : phase.Before ≡ phase.Running → ⊥
