@@ -35,6 +35,10 @@ pub record Runs (s t o t′ o′ : Bytes) (q : Phase) (n : ℕ) (all : Bool) : T
   pub left : q ≡ phase.Running → Left t′
   pub kept : (q ≡ phase.Running → ⊥) → t′ ≡ t
 
+-- what is written lies in the buffer
+pub run-fits : {s t o t′ o′ : Bytes} {q : Phase} {n : ℕ} {all : Bool} → Runs s t o t′ o′ q n all → n ≤ length o′
+run-fits {s} {o = o} {n = n} a = omega (arith, ap length (a .bytes), length-append ((ranIn s o) .0) (drop n o), a .size)
+
 -- ---- the loop: what is left of the tape makes the whole
 
 pub record Going (s t₀ o₀ : Bytes) (p : Phase) (at len : ℕ) (t o : Bytes) : Type 0 where
