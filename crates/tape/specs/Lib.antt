@@ -5,3 +5,4 @@ pub mod Within
 pub mod Step
 pub mod Run
 pub mod Feed
+pub mod Row
