@@ -7,7 +7,7 @@ use native.Mathlib.Omega.{arith}
 use borrow.Author.Tests.{leb-true, leb-false, le-leb, lt-leb}
 use lib.Dec.{leb}
 use lib.ListN.{length, take, drop, length-drop}
-use Rattle.rules.specs.Base.{if_then_else_, Bytes, All}
+use Rattle.rules.specs.Base.{Bytes, All}
 use Rattle.rules.specs.Field.{more}
 use Rattle.rules.specs.Tape.{extent, records}
 use Rattle.rules.specs.Bounds.{IsByte}

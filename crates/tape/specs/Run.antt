@@ -161,7 +161,7 @@ module _ {s t₀ o₀ : Bytes} {p : Phase} {at len : ℕ} {t o : Bytes} (g : Goi
   ran : (l : List Bytes) → within (length o₀ - len) (recordsOf (drop at s)) (stateOf p t) ≡ ([], l, stateOf p t) → Runs s t₀ o₀ t o p len (empty l)
   ran l e =
       let f : ranIn s o₀ ≡ (g .written, l, stateOf p t) =
-              g .goes ∙ ap (λ (y : Bytes × List Bytes × State). behind (g .written) y) e ∙ ap (λ (z : Bytes). (z, l, stateOf p t)) (append-nil (g .written)) in
+      g .goes ∙ ap (λ (y : Bytes × List Bytes × State). behind (g .written) y) e ∙ ap (λ (z : Bytes). (z, l, stateOf p t)) (append-nil (g .written)) in
       record {
         bytes = g .bytes ∙ sym (ap (λ (y : Bytes × List Bytes × State). y .0 ++ drop len o₀) f);
         size = g .size ∙ sym (ap (λ (y : Bytes × List Bytes × State). length (y .0)) f);

@@ -10,7 +10,7 @@ use lib.ListN.{length, take, drop, length-append, length-drop, take-append-drop}
 use Rattle.rules.specs.Base.{Bytes, All}
 use Rattle.rules.specs.Data.{Result}
 use Rattle.rules.specs.Output.{outputs, doneRecord}
-use Rattle.rules.specs.Entry.{Start, Made, Refused}
+use Rattle.rules.specs.Entry.{Refused}
 use Rattle.rules.specs.Entry as rule
 use Rattle.rules.specs.Bounds.{IsByte}
 use Rattle.table_layout.specs.View.{viewTable}
@@ -155,7 +155,7 @@ module _ (o : Bytes) {t r t′ l : Bytes} {n k : ℕ} (c : Called t r (take buff
       let e : ruled t r (take bufferLen o) ≡ rule.call r bufferLen (viewTable t) = ap (λ (m : ℕ). rule.call r m (viewTable t)) (lent-size o h) in
       let a : Result = rule.call r bufferLen (viewTable t) in
       let q : ruledBytes t r (take bufferLen o) ++ doneRecord n ≡ outputs (a .step .outs) ++ doneRecord (a .number) =
-              ap (λ (d : Result). outputs (d .step .outs) ++ doneRecord n) e ∙ ap (λ (m : ℕ). outputs (a .step .outs) ++ doneRecord m) (c .number ∙ ap (λ (d : Result). d .number) e) in
+      ap (λ (d : Result). outputs (d .step .outs) ++ doneRecord n) e ∙ ap (λ (m : ℕ). outputs (a .step .outs) ++ doneRecord m) (c .number ∙ ap (λ (d : Result). d .number) e) in
       makes (outputs (a .step .outs) ++ doneRecord (a .number)) (State.Running (a .step .table)) refl
       (ap State.Running (c .table ∙ ap (λ (d : Result). d .step .table) e))
       (subst (λ (w : Bytes). Front o w o′ len) q (front (wrote-then call-wrote d)))

@@ -1,14 +1,13 @@
 -- A session in so much room: it stops before a record for which there may be too little.
-use mathlib.Core.Path.{_≡_, refl, sym, ap, _∙_, subst}
+use mathlib.Core.Path.{_≡_, refl, ap, _∙_}
 use mathlib.Core.Bool.{Bool, true, false}
 use mathlib.Core.List.{List, [], _∷_, _++_}
-use Prim.Native.Nat.{ℕ, _+_, _-_, _*_, _≤_, _<_}
+use Prim.Native.Nat.{ℕ, _-_, _*_, _≤_, _<_}
 use native.Mathlib.Omega.{arith}
 use borrow.Author.Tests.{lt-ltb, le-ltb}
 use lib.Dec.{ltb}
 use lib.ListN.{length, length-append}
 use Rattle.rules.specs.Base.{if_then_else_, Bytes, All}
-use Rattle.rules.specs.Data.{Table}
 use Rattle.rules.specs.Output.{outputs, doneRecord}
 use Rattle.rules.specs.Entry.{Start, Made, Refused, new, call}
 use Rattle.rules.specs.Tape.{run}

@@ -1,7 +1,7 @@
 // A session, record by record: the first makes the table, each other one is a call. What is written for a record stands at the front of the buffer.
-use settle::layout::BUFFER_LEN;
 use output_record::put::put_done;
 use settle::call;
+use settle::layout::BUFFER_LEN;
 use settle::new;
 ghost use mathlib.Core.Path.{_≡_};
 ghost use Prim.Native.Nat.{_≤_};

@@ -10,6 +10,7 @@ ghost use Rattle.table_layout.specs.Layout.{tableLen};
 
 // The longest tape, and room for what is written for one.
 const TAPE_LEN: usize = 65536;
+
 const ROOM: usize = 65536;
 
 // Whether to go on: no.

@@ -5,15 +5,12 @@ use borrow.Author.Needs.{needs}
 use Rattle.tape.proofs.cut.extent.Statement.{statement}
 use Rattle.tape.proofs.cut.extent.Tie as tie
 
--- places: if1 shared-slice-known args good pre
 returns : tie.Need-returns
 returns c = extent-short (now (c .before .before .args .tape)) (c .if1 .taken)
 
--- places: if2 get-be if1 shared-slice-known args good pre
 returns-2 : tie.Need-returns-2
 returns-2 c = rw (c .before .get-be .ensures .0) (extent-whole (now (c .before .before .before .before .args .tape)) (c .before .before .if1 .left) (rw (c .before .get-be .ensures .0) at (c .if2 .taken)))
 
--- places: if2 get-be if1 shared-slice-known args good pre
 returns-3 : tie.Need-returns-3
 returns-3 c = extent-cut (now (c .before .before .before .before .args .tape)) (c .before .before .if1 .left) (rw (c .before .get-be .ensures .0) at (c .if2 .left))
 

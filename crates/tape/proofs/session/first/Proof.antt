@@ -6,11 +6,9 @@ use borrow.Author.Needs.{needs}
 use Rattle.tape.proofs.session.first.Statement.{statement}
 use Rattle.tape.proofs.session.first.Tie as tie
 
--- places: if1 slice-known4 out put-done put-done-arg slice-known3 table new new-arg slice-known2 shared-slice-known slice-known args good pre
 returns : tie.Need-returns
 returns c = step-made (all-bytes (now (c .before .before .before .before .before .before .before .before .before .before .before .before .args .rec)) (c .before .before .before .before .before .before .before .before .before .before .shared-slice-known .given)) (c .before .before .before .before .before .before .before .new .ensures) (c .before .before .before .put-done .ensures) (c .if1 .taken)
 
--- places: if1 slice-known4 out put-done put-done-arg slice-known3 table new new-arg slice-known2 shared-slice-known slice-known args good pre
 returns-2 : tie.Need-returns-2
 returns-2 c = step-refused (all-bytes (now (c .before .before .before .before .before .before .before .before .before .before .before .before .args .rec)) (c .before .before .before .before .before .before .before .before .before .before .shared-slice-known .given)) (c .before .before .before .before .before .before .before .new .ensures) (c .before .before .before .put-done .ensures) (c .if1 .left)
 

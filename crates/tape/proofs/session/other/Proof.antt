@@ -7,19 +7,15 @@ use borrow.Author.Needs.{needs}
 use Rattle.tape.proofs.session.other.Statement.{statement}
 use Rattle.tape.proofs.session.other.Tie as tie
 
--- places: call-arg slice-known2 shared-slice-known slice-known args good pre
 part-call-end : tie.Need-part-call-end
 part-call-end c = omega (arith, c .before .before .before .before .pre .1)
 
--- places: put-done-arg slice-known4 out slice-known3 table call call-arg2 call-arg slice-known2 shared-slice-known slice-known args good pre
 put-done-requires : tie.Need-put-done-requires
 put-done-requires c κs = call-room (now (c .before .before .before .before .before .before .before .before .before .before .before .args .out)) (c .before .before .before .before .before .call .ensures) (c .before .before .before .before .before .before .before .before .before .before .before .pre .1) (c .before .before .before .before .before .call .kept .1 .1 .0)
 
--- places: slice-known5 out2 put-done put-done-arg slice-known4 out slice-known3 table call call-arg2 call-arg slice-known2 shared-slice-known slice-known args good pre
 same-length-2 : tie.Need-same-length-2
 same-length-2 c = call-length (now (c .before .before .before .before .before .before .before .before .before .before .before .before .before .before .args .out)) (c .before .before .before .before .before .before .before .before .call .ensures) (c .before .before .before .before .before .before .before .before .before .before .before .before .before .before .pre .1) (c .before .before .before .before .before .before .before .before .call .kept .1 .1 .0) (c .before .before .put-done .kept .0)
 
--- places: slice-known5 out2 put-done put-done-arg slice-known4 out slice-known3 table call call-arg2 call-arg slice-known2 shared-slice-known slice-known args good pre
 returns : tie.Need-returns
 returns c = step-called (now (c .before .before .before .before .before .before .before .before .before .before .before .before .before .before .args .out)) (c .before .before .before .before .before .before .before .before .call .ensures) (c .before .before .before .before .before .before .before .before .before .before .before .before .before .before .pre .1) (c .before .before .before .before .before .before .before .before .call .kept .1 .1 .0) (all-bytes (now (c .before .before .before .before .before .before .before .before .before .before .before .before .before .before .args .rec)) (c .before .before .before .before .before .before .before .before .before .before .before .before .shared-slice-known .given)) (c .before .before .put-done .ensures)
 

@@ -5,19 +5,15 @@ use borrow.Author.Needs.{needs}
 use Rattle.tape.proofs.session.step.Statement.{statement}
 use Rattle.tape.proofs.session.step.Tie as tie
 
--- places: other-arg2 other-arg enum-told2 match slice-known2 shared-slice-known slice-known args good pre
 other-requires : tie.Need-other-requires
 other-requires c κs = (c .before .before .before .before .before .before .before .pre .1 .1 (c .before .before .enum-told2 .given .1), c .before .before .before .before .before .before .before .pre .1 .0)
 
--- places: slice-known4 out slice-known3 table first first-arg2 first-arg enum-told match slice-known2 shared-slice-known slice-known args good pre
 returns : tie.Need-returns
 returns c = steps-by (c .before .before .before .before .before .before .before .enum-told .given .1) (c .before .before .before .before .first .ensures)
 
--- places: slice-known6 out2 slice-known5 table2 other other-arg2 other-arg enum-told2 match slice-known2 shared-slice-known slice-known args good pre
 returns-2 : tie.Need-returns-2
 returns-2 c = steps-by (c .before .before .before .before .before .before .before .enum-told2 .given .1) (c .before .before .before .before .other .ensures)
 
--- places: enum-told3 match slice-known2 shared-slice-known slice-known args good pre
 returns-3 : tie.Need-returns-3
 returns-3 c = steps-by (c .enum-told3 .given .1) (step-over (now (c .before .before .before .before .before .args .table)) (now (c .before .before .before .before .before .args .rec)) (now (c .before .before .before .before .before .args .out)))
 
