@@ -33,7 +33,7 @@ pub fn next_record(buf: &mut [u8]) -> usize
     U16 + read_part(buf, U16, end)
 }
 
-// A tape to its end, or to the Done of a first record that is refused; what is written for each record goes to standard output.
+// A tape to its end, or to the Done of a first record that is refused; what is written for each record goes to standard output. What is read and written here is in no contract: `step` has what matters.
 // A proved loop has to end, so it counts its turns down, from a number that no run uses up.
 pub fn run_tape(table: &mut [u8], buf: &mut [u8], out: &mut [u8])
     requires { ⌜ length (now table) ≡ tableLen ⌝ }
