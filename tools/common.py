@@ -1,4 +1,6 @@
 """What the scripts here share: the root, words of the command line, rt, and the places of a function's needs."""
+import importlib.machinery
+import importlib.util
 import os
 import re
 import shutil
@@ -47,6 +49,14 @@ def rt(*args):
 def kit():
     """The toolchain's folder, as rt finds it."""
     return os.environ.get("RATTLE_HOME") or os.path.dirname(os.path.dirname(os.path.realpath(shutil.which("rt") or "rt")))
+
+
+def ci_edits():
+    """.ci/edits as a module."""
+    loader = importlib.machinery.SourceFileLoader("edits", f"{TOP}/.ci/edits")
+    module = importlib.util.module_from_spec(importlib.util.spec_from_loader("edits", loader))
+    loader.exec_module(module)
+    return module
 
 
 def path_of(fn):
