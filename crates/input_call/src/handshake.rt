@@ -46,21 +46,22 @@ pub struct ArrivedFields {
     pub message: Span,
 }
 
+// In these the flags stand behind the hello: in front of it the compiler copies the unused bytes between them too.
 pub struct HelloAt {
-    pub ok: bool,
     pub hello: Hello,
     pub at: usize,
+    pub ok: bool,
 }
 
 pub struct Msg1Fields {
-    pub ok: bool,
     pub hello: Hello,
     pub reachable: bool,
+    pub ok: bool,
 }
 
 pub struct ReplacementFields {
-    pub ok: bool,
     pub hello: Hello,
+    pub ok: bool,
 }
 
 // 1 dial: peer, pair, msg1, lease.
