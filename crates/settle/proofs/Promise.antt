@@ -19,7 +19,7 @@ use Rattle.settle.specs.Promise.{Exchange, Chain, end, call, accepted, W
 -- what a chain did is what the definitions play
 record Plays (t : Bytes) (l : List Exchange) (u : Bytes) : Type 0 where
   outs : List (List Output)
-  wrote : Each l outs
+  wrote : Each Wrote l outs
   count : (n : ℕ) → accepted n l ≡ rule.accepted n (feds l) (viewTable t)
   table : viewTable u ≡ (play (feds l) (viewTable t)) .table
   played : flat outs ≡ (play (feds l) (viewTable t)) .outs

@@ -34,12 +34,12 @@ pub record Wrote (x : Exchange) (os : List Output) : Type 0 where
   pub bytes : x .written ≡ outputs os
   pub unused : Unused ((viewTable (x .left)) .links) os
 
--- each call wrote its outputs
-abbrev pub Each : List Exchange → List (List Output) → Type 0
-Each [] [] = Unit {0}
-Each [] (os ∷ outs) = ⊥
-Each (x ∷ l) [] = ⊥
-Each (x ∷ l) (os ∷ outs) = Wrote x os × Each l outs
+-- what holds of each with the other list's at its place; the lists are as long
+abbrev pub Each : {A B : Type 0} → (A → B → Type 0) → List A → List B → Type 0
+Each P [] [] = Unit {0}
+Each P [] (b ∷ s) = ⊥
+Each P (a ∷ l) [] = ⊥
+Each P (a ∷ l) (b ∷ s) = P a b × Each P l s
 
 abbrev pub flat : List (List Output) → List Output
 flat [] = []
@@ -52,7 +52,7 @@ feds l = map (λ x. x .fed) l
 pub record Promised (t : Bytes) (l : List Exchange) (u : Bytes) : Type 0 where
   -- the outputs of each call, and (iii)
   pub outs : List (List Output)
-  pub wrote : Each l outs
+  pub wrote : Each Wrote l outs
   -- (i) calls that accepted the lease = live legs that hold it + Free and Install outputs with it
   pub leases : (n : ℕ) → accepted n l ≡ holding n (viewTable u) + given n (flat outs)
   -- (ii) each live link has one owner, a leg or a held peer, and each of those a live link

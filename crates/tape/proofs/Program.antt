@@ -10,13 +10,13 @@ use Rattle.rules.specs.Output.{outputs, doneRecord}
 use Rattle.table_layout.specs.View.{viewTable}
 use Rattle.settle.specs.Layout.{bufferLen}
 use Rattle.settle.specs.Contract.{Begun, Called, ruledBytes}
-use Rattle.settle.specs.Promise.{Exchange, Chain, call}
+use Rattle.settle.specs.Promise.{Exchange, Each, Chain, call}
 use Rattle.settle.proofs.Promise.{promise}
 use Rattle.rules.specs.Entry.{Start, Made, Refused, new}
 use Rattle.rules.specs.Entry as rule
 use Rattle.tape.specs.Session.{State, opened, next}
 use Rattle.tape.specs.Step.{stateOf, Steps, stays}
-use Rattle.tape.specs.Row.{Seen, Row, step, Alike, Demand}
+use Rattle.tape.specs.Row.{Seen, Row, step, Same, Demand}
 use Rattle.tape.specs.declared.session.Phase.{Phase}
 use Rattle.tape.specs.declared.session.Phase.the-variants as phase
 
@@ -36,7 +36,7 @@ call-wrote {t} {o} {n = n} {k} r c e =
 
 record Chained (t : Bytes) (s : List Seen) (u : Bytes) : Type 0 where
   exchanges : List Exchange
-  alike : Alike exchanges s
+  alike : Each Same exchanges s
   chain : Chain t exchanges u
 
 -- a step of a session that runs is a call

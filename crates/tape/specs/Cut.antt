@@ -11,6 +11,7 @@ use Rattle.rules.specs.Base.{Bytes, All}
 use Rattle.rules.specs.Field.{more}
 use Rattle.rules.specs.Tape.{extent, records}
 use Rattle.rules.specs.Bounds.{IsByte}
+use Rattle.lib_laws.specs.Shift.{all-take, all-drop}
 use Rattle.lib_laws.specs.Parse.{number-yes, number-no}
 
 -- ---- the first record
@@ -90,18 +91,8 @@ records-none (b ∷ s) h = absurd (omega arith)
 
 -- ---- their bytes
 
-pub all-take : (n : ℕ) (s : Bytes) → All IsByte s → All IsByte (take n s)
-all-take zero s h = tt
-all-take (suc n) [] h = tt
-all-take (suc n) (b ∷ s) h = (h .0, all-take n s (h .1))
-
-all-drop : (n : ℕ) (s : Bytes) → All IsByte s → All IsByte (drop n s)
-all-drop zero s h = h
-all-drop (suc n) [] h = tt
-all-drop (suc n) (b ∷ s) h = all-drop n s (h .1)
-
 pub all-records : (k : ℕ) (s : Bytes) → All IsByte s → All (All IsByte) (records k s)
 unfolding records
 all-records zero s h = tt
 all-records (suc k) [] h = tt
-all-records (suc k) (b ∷ s) h = let n : ℕ = extent (b ∷ s) in (all-take n (b ∷ s) h, all-records k (drop n (b ∷ s)) (all-drop n (b ∷ s) h))
+all-records (suc k) (b ∷ s) h = let n : ℕ = extent (b ∷ s) in (all-take IsByte n (b ∷ s) h, all-records k (drop n (b ∷ s)) (all-drop IsByte n (b ∷ s) h))

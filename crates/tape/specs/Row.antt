@@ -7,7 +7,7 @@ use Rattle.rules.specs.Base.{Bytes}
 use Rattle.rules.specs.Output.{doneRecord}
 use Rattle.settle.specs.Layout.{bufferLen}
 use Rattle.settle.specs.Contract.{Begun}
-use Rattle.settle.specs.Promise.{Exchange, Promised}
+use Rattle.settle.specs.Promise.{Exchange, Each, Promised}
 use Rattle.tape.specs.Step.{Steps}
 use Rattle.tape.specs.declared.session.Phase.{Phase}
 use Rattle.tape.specs.declared.session.Phase.the-variants as phase
@@ -31,17 +31,11 @@ pub record Same (x : Exchange) (y : Seen) : Type 0 where
   pub written : y .written ≡ x .written ++ doneRecord (x .number)
   pub left : x .left ≡ y .left
 
-abbrev pub Alike : List Exchange → List Seen → Type 0
-Alike [] [] = Unit {0}
-Alike [] (y ∷ s) = ⊥
-Alike (x ∷ l) [] = ⊥
-Alike (x ∷ l) (y ∷ s) = Same x y × Alike l s
-
 -- the first record, a, made a table, and settle's promise holds of the exchanges of the others
 pub record Kept (t : Bytes) (a : Seen) (s : List Seen) (u : Bytes) : Type 0 where
   pub begun : Begun t (a .bytes) (a .left) 0
   pub exchanges : List Exchange
-  pub alike : Alike exchanges s
+  pub alike : Each Same exchanges s
   pub promised : Promised (a .left) exchanges u
 
 -- for every row of steps from the first on, in which a table was made
