@@ -1,8 +1,8 @@
--- The time arithmetic of the code against the rules: the shift, the product that is cut, the step that is halved.
+-- The time arithmetic of the code against the rules: the shift, the product that is cut, the sum that may not fit.
 use mathlib.Core.Path.{_≡_, refl, sym, ap, _∙_}
 use mathlib.Core.Bool.{Bool, true, false}
-use Prim.Native.Nat.{ℕ, zero, suc, _+_, _-_, _*_, _/_, _%_, _^_, _≤_, _<_, min}
-use native.Mathlib.Nat.{le-div-iff-mul-le, div-lt-iff-lt-mul, one-mul, pow-suc}
+use Prim.Native.Nat.{ℕ, _+_, _-_, _*_, _/_, _%_, _^_, _≤_, _<_, min}
+use native.Mathlib.Nat.{le-div-iff-mul-le, div-lt-iff-lt-mul, one-mul}
 use native.Mathlib.Omega.{arith}
 use borrow.Author.Needs.{needs}
 use borrow.Author.Tests.{lt-ltb, le-ltb, ltb-true}
@@ -14,7 +14,7 @@ use mir.Val.{Fits}
 use Rattle.rules.specs.Base.{option, if_then_else_}
 use Rattle.rules.specs.Std.{fromNanos, durationMax, saturatingSince, checkedShl, u32Max}
 use Rattle.rules.specs.Time as rule
-use Rattle.rules.proofs.Time.{factor, late, ceilingNanos, backoff-nanos, deadline-nanos, resend-nanos, younger-nanos}
+use Rattle.rules.proofs.Time.{factor, ceilingNanos, backoff-nanos, deadline-nanos, resend-nanos, younger-nanos}
 
 -- ---- the factor
 shifted : (e : ℕ) → e < 32 → (1 * 2 ^ e) % 2 ^ 32 ≡ 2 ^ e
@@ -80,35 +80,17 @@ module _ (e f q base cap : ℕ) (p : f ≡ option (checkedShl 1 e) u32Max (λ f.
   pub product-fits : base ≤ q → Fits w64 (base * f)
   product-fits h = let l : base * f ≤ cap = product-most h in omega arith
 
--- ---- the step that is halved: k halvings are left, enough for s
-pub record Later (now d s : ℕ) : Type 0 where
-  pub turns : ℕ
-  pub small : s < 2 ^ turns
-  pub left : rule.deadline now (fromNanos d) ≡ late turns now s
+-- ---- the sum, of a step of at most the ceiling
+module _ (now d step : ℕ) (e : step ≡ min d ceilingNanos) where
+  pub sum-last : 18446744073709551615 - now < step → 18446744073709551615 ≡ rule.deadline now (fromNanos d)
+  sum-last h = omega (arith, deadline-nanos now d)
 
-pub later-start : (now d s : ℕ) → Fits w64 now → s ≡ min d ceilingNanos → Later now d s
-later-start now d s w e = record { turns = 64; small = omega arith; left = rw e (deadline-nanos now d (w .fits)) }
+  pub sum-whole : Fits w64 now → step ≤ 18446744073709551615 - now → now + step ≡ rule.deadline now (fromNanos d)
+  sum-whole w h = omega (arith, w .fits, deadline-nanos now d)
 
-module _ {now d s : ℕ} (a : Later now d s) where
-  pub later-turn : 18446744073709551615 - now < s → Later now d (s / 2)
-  unfolding late
-  later-turn h = go (a .turns) (a .small) (a .left)
-    where
-      go : (k : ℕ) → s < 2 ^ k → rule.deadline now (fromNanos d) ≡ late k now s → Later now d (s / 2)
-      go zero p e = absurd (omega arith)
-      go (suc k) p e = record { turns = k; small = let q : s < 2 ^ k * 2 = rw pow-suc at p in omega arith; left = e ∙ rw (lt-ltb (18446744073709551615 - now) s h) }
-
-  pub later-end : s ≤ 18446744073709551615 - now → now + s ≡ rule.deadline now (fromNanos d)
-  unfolding late
-  later-end h = sym (a .left ∙ go (a .turns) (a .small))
-    where
-      go : (k : ℕ) → s < 2 ^ k → late k now s ≡ now + s
-      go zero p = omega arith
-      go (suc k) p = rw (le-ltb (18446744073709551615 - now) s h)
-
-pub resend-is : (now e base step r : ℕ) → Fits w64 now → fromNanos step ≡ rule.backoff e (fromNanos base) (fromNanos 3153600000000000000) → r ≡ rule.deadline now (fromNanos step)
+pub resend-is : (now e base step r : ℕ) → fromNanos step ≡ rule.backoff e (fromNanos base) (fromNanos 3153600000000000000) → r ≡ rule.deadline now (fromNanos step)
     → r ≡ rule.deadline now (rule.backoff e (fromNanos base) durationMax)
-resend-is now e base step r w p q = q ∙ ap (rule.deadline now) (p ∙ backoff-nanos e base ceilingNanos (lit< tt)) ∙ sym (resend-nanos now e base (w .fits))
+resend-is now e base step r p q = q ∙ ap (rule.deadline now) (p ∙ backoff-nanos e base ceilingNanos (lit< tt)) ∙ sym (resend-nanos now e base)
 
 -- ---- ages
 pub age-none : (now was : ℕ) → now < was → (fromNanos 0 ≡ saturatingSince now was) × (0 ≡ now - was)
@@ -122,4 +104,4 @@ age-some now was h = (refl, refl)
 pub younger-is : (span now was a : ℕ) → a ≡ now - was → ltb a span ≡ rule.younger span now was
 younger-is span now was a e = rw e (sym (younger-nanos span now was))
 
-pub ruleset timing = (needs, factor-shift, power-shift, shift-some, factor-most, power-most, parted-shift, parted-most, backoff-cap, backoff-whole, product-fits, later-start, later-turn, later-end, resend-is, age-none, age-some, younger-is)
+pub ruleset timing = (needs, factor-shift, power-shift, shift-some, factor-most, power-most, parted-shift, parted-most, backoff-cap, backoff-whole, product-fits, sum-last, sum-whole, resend-is, age-none, age-some, younger-is)

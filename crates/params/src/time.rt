@@ -69,14 +69,13 @@ fn least(a: u64, b: u64) -> u64
     a
 }
 
-// The reading after a span of at most the ceiling, which is halved until the sum fits.
+// The reading after a span of at most the ceiling, and the last reading where that sum does not fit.
 pub fn deadline(now: u64, d: u64) -> u64
     ensures { λ r. ⌜ r ≡ rule.deadline now (fromNanos d) ⌝ }
 {
-    let room = LAST - now;
-    let mut step = least(d, CEILING);
-    while room < step {
-        step = step / 2;
+    let step = least(d, CEILING);
+    if LAST - now < step {
+        return LAST;
     }
     now + step
 }

@@ -119,7 +119,7 @@ module _ (c : Params) (now : ℕ) (w : Word now) (k : ParamsFit c) where
     epoch = x .epoch;
     count = counter-word (r .count);
     last = w;
-    until = if-by (IfAny Word) (ltb (saturatingAdd (r .count) 1) (c .silent)) (λ z. x .until) (λ z. deadline-word now _ w);
+    until = if-by (IfAny Word) (ltb (saturatingAdd (r .count) 1) (c .silent)) (λ z. x .until) (λ z. deadline-word now _);
     limit = counted-limit o (r .counted) (x .limit);
     counted = counted-fits o (r .counted) f (x .counted);
   }

@@ -9,8 +9,8 @@ use Rattle.rules.specs.Base.{option, Bytes}
 use Rattle.rules.specs.Data.{Pair, Proven, Live, Acked, Probing, Hello, Table, Call, Source, Why, Gate, Refusal, Unheard, Dampened, Replayed, Silent, Output, Step, Opened, Resend, Retire, Free, Reject}
 use Rattle.rules.specs.Field.{more, digits, bind, bytes, number, upTo, code, pair, message, pairBytes, messageBytes, frame}
 use Rattle.rules.specs.Record.{Timed, hello, dialFields, linkFields, arrivedFields, msg1Fields, replacementFields, msg2Fields, restartedFields, heardFields, removeFields, pathFields, releaseFields, kinds, timed, settings, form, beginFields, begin, framed, readCall, readNew, settingsBytes, formBytes, spellNew}
-use Rattle.rules.specs.Std.{fromNanos, durationMax, lastReading, saturatingMul, shorter, shortest, isZero, half, checkedAdd, saturatingSince, checkedShl, insert}
-use Rattle.rules.specs.Time.{Params, seconds, default, outOfRange, backoff, reach, deadline, younger}
+use Rattle.rules.specs.Std.{fromNanos, durationMax, lastReading, saturatingMul, shorter, shortest, checkedAdd, saturatingSince, checkedShl, insert}
+use Rattle.rules.specs.Time.{Params, seconds, default, outOfRange, backoff, deadline, younger}
 use Rattle.rules.specs.Links.{uses, inUse, indexed, opened, hold, setPath, path, once, addresses, retiring, released, releasing}
 use Rattle.rules.specs.Legs.{dialLeg, answerLeg, storedMsg2, answering, resent, overdue, resends, wake, nextWake}
 use Rattle.rules.specs.Gates.{memory, store, silencing, replayed, young, dampened, judge, gate, clear, prune, promoted, expired, counting, countedWith, silenced, ended}
@@ -40,7 +40,7 @@ from first = newTable (replicate 16 0) first default
 
 -- the calls one after another
 pub after : List Timed → Table → Step
-unfolding saturatingMul shorter shortest isZero half checkedAdd saturatingSince checkedShl insert default outOfRange backoff reach deadline younger uses inUse indexed opened hold setPath path once addresses retiring released releasing dialLeg answerLeg storedMsg2 answering resent overdue resends wake nextWake memory store silencing replayed young dampened judge gate clear prune promoted expired counting countedWith silenced ended _▸_ distinct places numbering entering dial ends abandon storedOn storedIn stored full arrived parted removed remove denied answer stamp admitted admit attributed msg1 promote sent unsent dialed moveto own msg2 restarted heard abandons poll retireds retirings closeLegs removes close crowded addPath release step
+unfolding saturatingMul shorter shortest checkedAdd saturatingSince checkedShl insert default outOfRange backoff deadline younger uses inUse indexed opened hold setPath path once addresses retiring released releasing dialLeg answerLeg storedMsg2 answering resent overdue resends wake nextWake memory store silencing replayed young dampened judge gate clear prune promoted expired counting countedWith silenced ended _▸_ distinct places numbering entering dial ends abandon storedOn storedIn stored full arrived parted removed remove denied answer stamp admitted admit attributed msg1 promote sent unsent dialed moveto own msg2 restarted heard abandons poll retireds retirings closeLegs removes close crowded addPath release step
 after [] t = still t
 after (x ∷ s) t = (step (x .now) (x .call) t) .step ▸ after s
 
@@ -87,6 +87,10 @@ holds now e d n = msg1s now e d ∷ on now (Call.Sent n) ∷ []
 -- and that session ends
 abbrev pub ending : ℕ → ℕ → List Timed
 ending now n = holds now 5 n n ++ (on now (Call.Remove them Why.Ended) ∷ [])
+
+-- three of them 10 ns below the last reading
+abbrev pub endingsLast : List Timed
+endingsLast = ending (lastReading - 10) 1 ++ ending (lastReading - 10) 2 ++ ending (lastReading - 10) 3
 
 abbrev pub rejected : Source → Refusal → ℕ → List Output
 rejected s r l = Reject (some (them, s)) (Gate r) ∷ Free l ∷ []
@@ -201,12 +205,16 @@ pub record Rows : Type 0 where
   -- Backoff of 1 ns, no cap in reach: exponent 31 gives 2,147,483,648; 32 gives 4,294,967,295.
   pub backoff-31 : backoff 31 (fromNanos 1) durationMax ≡ fromNanos 2_147_483_648
   pub backoff-32 : backoff 32 (fromNanos 1) durationMax ≡ fromNanos 4_294_967_295
-  -- Ten ns added 5 below the last reading ends on the last; 4 below, it ends 2 below.
+  -- Ten ns added 5 below the last reading ends on the last; 4 below, it does too. The cut to the ceiling comes first.
   pub deadline-5 : deadline (lastReading - 5) (fromNanos 10) ≡ lastReading
-  pub deadline-4 : deadline (lastReading - 4) (fromNanos 10) ≡ lastReading - 2
+  pub deadline-4 : deadline (lastReading - 4) (fromNanos 10) ≡ lastReading
+  pub deadline-ceiling : deadline 1 durationMax ≡ 3_153_600_000_000_000_001
   -- Dial at 0, each resend sent on time: wakes 1, 3, 7, 15, 30 s.
   pub resends-on-time : outs (dials 0 them 9 ∷ on 0 Call.Wake ∷ sends 1 ++ sends 3 ++ sends 7 ++ sends 15)
       ≡ Opened 1 ∷ wakes 1 ∷ wakes 3 ∷ wakes 7 ∷ wakes 15 ∷ wakes 30 ∷ []
+  -- Dial 10 ns below the last reading: it wakes, and is reaped, at the last and not before.
+  pub dial-last : outs (dials (lastReading - 10) them 9 ∷ on (lastReading - 10) Call.Wake ∷ on (lastReading - 1) Call.Poll ∷ on lastReading Call.Poll ∷ [])
+      ≡ Opened 1 ∷ Output.Wake (some lastReading) ∷ Free 9 ∷ Retire 1 (A ∷ []) ∷ []
   -- Restart, new digest, no stamp, unheard holder: refused at 999,999,999 ns; passes at 1 s; stamp 2 s old, Dampened.
   pub restart-young : says (holds 0 5 1 1) (msg1s 999_999_999 6 2) ≡ rejected Source.Restart Unheard 2
   pub restart-old : says (holds 0 5 1 1) (msg1s (seconds 1) 6 2) ≡ passed 1
@@ -218,6 +226,9 @@ pub record Rows : Type 0 where
   -- until = now lets through.
   pub silence-on : says (ending 0 1 ++ ending 0 2 ++ ending 0 3) (msg1s 29_999_999_999 5 4) ≡ rejected Source.NotHeld Silent 4
   pub silence-over : says (ending 0 1 ++ ending 0 2 ++ ending 0 3) (msg1s (seconds 30) 5 4) ≡ Output.Answer 4 false (2 ∷ []) ∷ []
+  -- The same where until is the last reading.
+  pub silence-last-on : says endingsLast (msg1s (lastReading - 1) 5 4) ≡ rejected Source.NotHeld Silent 4
+  pub silence-last-over : says endingsLast (msg1s lastReading 5 4) ≡ Output.Answer 4 false (2 ∷ []) ∷ []
   -- Retiring a leg without paths whose setup another leg shares closes nothing.
   pub shared-setup : says (dials 0 them 9 ∷ dials 0 (replicate 16 0x23) 10 ∷ []) (on 0 (Call.Abandon 1)) ≡ Free 9 ∷ Retire 1 [] ∷ []
   -- The worked tape: new; dial; abandon. Done; Opened 1, Done; Free 9, Retire 1 closing the pair, Done.
@@ -264,7 +275,9 @@ rows = record {
   backoff-32 = refl;
   deadline-5 = refl;
   deadline-4 = refl;
+  deadline-ceiling = refl;
   resends-on-time = refl;
+  dial-last = refl;
   restart-young = refl;
   restart-old = refl;
   restart-stamped = refl;
@@ -272,6 +285,8 @@ rows = record {
   silence-spans = refl;
   silence-on = refl;
   silence-over = refl;
+  silence-last-on = refl;
+  silence-last-over = refl;
   shared-setup = refl;
   tape = refl;
   tape-second-new = refl;

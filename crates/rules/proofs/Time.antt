@@ -1,17 +1,19 @@
 -- Spans and deadlines in nanoseconds: the plain forms, and that the definitions over Duration and Instant equal them.
 use mathlib.Core.Path.{_≡_, refl, sym, ap, _∙_}
-use mathlib.Core.Bool.{Bool, true, false, _&&_, _||_}
-use mathlib.Core.Option.{none, some}
-use Prim.Native.Nat.{ℕ, zero, suc, _+_, _-_, _*_, _/_, _%_, _^_, _≤_, _<_, min}
-use native.Mathlib.Nat.{one-mul, pow-suc, pow-le-pow-right}
+use mathlib.Core.Bool.{Bool, true, false, not, _&&_, _||_}
+use mathlib.Core.Option.{Option, none, some}
+use Prim.Native.Nat.{ℕ, _+_, _-_, _*_, _%_, _^_, _≤_, _<_, min}
+use native.Mathlib.Nat.{one-mul}
 use native.Mathlib.Omega.{arith}
 use borrow.Author.Tests.{ltb-true, ltb-false, eqb-true, eqb-false, leb-true, leb-false, lt-ltb, le-ltb}
 use lib.Dec.{eqb, leb, ltb, lit<, lit≤}
 use lib.Pow.{shl-exact}
 use Rattle.rules.specs.Base.{if_then_else_, option}
-use Rattle.rules.specs.Std.{Duration, asNanos, fromNanos, durationMax, saturatingMul, shorter, shortest, isZero, half, lastReading, checkedAdd, saturatingSince, u32Max, checkedShl}
-use Rattle.rules.specs.Time.{backoff, ceiling, reach, deadline, younger}
-use Rattle.rules.specs.Bounds.{Word}
+use Rattle.rules.specs.Std.{Duration, asNanos, fromNanos, durationMax, saturatingMul, shorter, shortest, lastReading, checkedAdd, saturatingSince, u32Max, checkedShl}
+use Rattle.rules.specs.Time.{Params, backoff, ceiling, deadline, younger}
+use Rattle.rules.specs.Data.{Memory, Silence}
+use Rattle.rules.specs.Gates.{differ, silencing, expired}
+use Rattle.rules.specs.Bounds.{Word, IfAny, SilenceFits}
 
 -- ---- the plain forms
 
@@ -21,11 +23,6 @@ factor e = if ltb e 32 then 2 ^ e else 2 ^ 32 - 1
 
 abbrev pub ceilingNanos : ℕ
 ceilingNanos = 3_153_600_000_000_000_000
-
--- now and a step, which is halved, rounding down, until the sum fits
-unfoldable pub late : ℕ → ℕ → ℕ → ℕ
-late zero now step = now
-late (suc k) now step = if ltb (2 ^ 64 - 1 - now) step then late k now (step / 2) else now + step
 
 -- ---- Duration
 
@@ -87,76 +84,63 @@ backoff-nanos e base cap h = backoff-long e base cap (omega arith)
 
 -- ---- deadline
 
-some-length : (d : Duration) → 0 < asNanos d → isZero d ≡ false
-unfolding isZero
-some-length d h = go (eqb (d .secs) 0) (eqb (d .nanos) 0) refl refl
+deadline-sum : (now : ℕ) (d : Duration) → deadline now d ≡ min (now + asNanos (shortest d ceiling)) lastReading
+unfolding deadline checkedAdd
+deadline-sum now d = go (now + asNanos (shortest d ceiling)) _ refl
   where
-    go : (x y : Bool) → eqb (d .secs) 0 ≡ x → eqb (d .nanos) 0 ≡ y → x && y ≡ false
-    go false y p q = refl
-    go true false p q = refl
-    go true true p q = absurd (omega (arith, eqb-true (d .secs) 0 p, eqb-true (d .nanos) 0 q))
+    go : (at : ℕ) (x : Bool) → leb at lastReading ≡ x → option (if x then some at else none) lastReading (λ at. at) ≡ min at lastReading
+    go at true e = omega (arith, leb-true at lastReading e)
+    go at false e = omega (arith, leb-false at lastReading e)
 
-reach-nanos : (k now step : ℕ) → Word now → reach k now (fromNanos step) ≡ late k now step
-unfolding reach late checkedAdd half
-reach-nanos zero now step w = refl
-reach-nanos (suc k) now step w = rw (nanos-back step) (go (leb (now + step) lastReading) refl (reach-nanos k now (step / 2) w))
-  where
-    go : (x : Bool) → leb (now + step) lastReading ≡ x → reach k now (fromNanos (step / 2)) ≡ late k now (step / 2)
-        → option (if x then some (now + step) else none) (if isZero (fromNanos step) then now else reach k now (fromNanos (step / 2))) (λ at. at) ≡ late (suc k) now step
-    go true e ih = let h : now + step ≤ lastReading = leb-true (now + step) lastReading e in rw (le-ltb (lastReading - now) step (omega arith))
-    go false e ih =
-        let h : lastReading < now + step = leb-false (now + step) lastReading e in
-        rw (lt-ltb (lastReading - now) step (omega arith), some-length (fromNanos step) (omega arith)) ih
-
-pub deadline-nanos : (now d : ℕ) → Word now → deadline now (fromNanos d) ≡ late 64 now (min d ceilingNanos)
+-- a sum that fits is the deadline, as in the Rust's first turn
+pub deadline-fits : (now at : ℕ) (d : Duration) → checkedAdd now (shortest d ceiling) ≡ some at → deadline now d ≡ at
 unfolding deadline
-deadline-nanos now d w = rw (shortest-nanos d ceilingNanos) (reach-nanos 64 now (min d ceilingNanos) w)
+deadline-fits now at d e = rw e
+
+pub deadline-nanos : (now d : ℕ) → deadline now (fromNanos d) ≡ min (now + min d ceilingNanos) lastReading
+deadline-nanos now d = rw (deadline-sum now (fromNanos d), shortest-nanos d ceilingNanos, nanos-back (min d ceilingNanos))
 
 -- a resend's backoff may be cut to the ceiling first
-pub resend-nanos : (now e base : ℕ) → Word now
-    → deadline now (backoff e (fromNanos base) durationMax) ≡ deadline now (fromNanos (min (base * factor e) ceilingNanos))
-resend-nanos now e base w =
+pub resend-nanos : (now e base : ℕ) → deadline now (backoff e (fromNanos base) durationMax) ≡ deadline now (fromNanos (min (base * factor e) ceilingNanos))
+resend-nanos now e base =
     let m : min (min (base * factor e) longest) ceilingNanos ≡ min (min (base * factor e) ceilingNanos) ceilingNanos = omega arith in
-    rw (backoff-long e base longest (lit≤ tt), deadline-nanos now (min (base * factor e) longest) w, deadline-nanos now (min (base * factor e) ceilingNanos) w, m)
+    rw (backoff-long e base longest (lit≤ tt), deadline-nanos now (min (base * factor e) longest), deadline-nanos now (min (base * factor e) ceilingNanos), m)
 
--- ---- the turns
+pub deadline-word : (now : ℕ) (d : Duration) → Word (deadline now d)
+deadline-word now d = omega (arith, deadline-sum now d)
 
-late-at-once : (k now : ℕ) → late k now 0 ≡ now
-unfolding late
-late-at-once zero now = refl
-late-at-once (suc k) now = rw (le-ltb (2 ^ 64 - 1 - now) 0 (omega arith)) (omega arith)
+-- never before its reading
+pub deadline-onward : (now : ℕ) (d : Duration) → Word now → now ≤ deadline now d
+deadline-onward now d w = omega (arith, deadline-sum now d)
 
--- any number of turns that halves the step to nothing is enough
-late-enough : (j k now step : ℕ) → step < 2 ^ j → step < 2 ^ k → late j now step ≡ late k now step
-unfolding late
-late-enough zero k now step p q = let z : step ≡ 0 = omega arith in rw z (sym (late-at-once k now))
-late-enough (suc j) zero now step p q = let z : step ≡ 0 = omega arith in rw z (late-at-once (suc j) now)
-late-enough (suc j) (suc k) now step p q =
-    let a : step < 2 ^ j * 2 = rw pow-suc at p in
-    let b : step < 2 ^ k * 2 = rw pow-suc at q in
-    rw (late-enough j k now (step / 2) (omega arith) (omega arith))
+-- never earlier for a later reading or a longer span
+pub deadline-monotone : (now later d e : ℕ) → now ≤ later → d ≤ e → deadline now (fromNanos d) ≤ deadline later (fromNanos e)
+deadline-monotone now later d e h k = omega (arith, deadline-nanos now d, deadline-nanos later e)
 
-pub turns-enough : (k now step : ℕ) → 63 ≤ k → Word now → step ≤ ceilingNanos → reach k now (fromNanos step) ≡ reach 64 now (fromNanos step)
-turns-enough k now step h w c =
-    rw (reach-nanos k now step w, reach-nanos 64 now step w)
-    (late-enough k 64 now step (omega (arith, pow-le-pow-right {n = 2} (lit< tt) {i = 63} {j = k} h)) (omega arith))
+-- ---- at the last reading
 
--- ---- bounds and ages
+-- a horizon whose sum does not fit expires at the last reading, and not before
+pub expired-last : (c : Params) (now : ℕ) (r : Silence) → lastReading < option (r .until) (r .last) (λ u. u) + min (c .horizon) ceilingNanos → expired c now r ≡ leb lastReading now
+unfolding expired
+expired-last c now r h =
+    let at : deadline (option (r .until) (r .last) (λ u. u)) (fromNanos (c .horizon)) ≡ lastReading
+    = omega (arith, deadline-nanos (option (r .until) (r .last) (λ u. u)) (c .horizon)) in
+    rw at
 
-reach-most : (k now : ℕ) (d : Duration) → Word now → Word (reach k now d)
-unfolding reach checkedAdd
-reach-most zero now d w = w
-reach-most (suc k) now d w = go (leb (now + asNanos d) lastReading) (isZero d) refl (reach-most k now (half d) w)
+-- no silence holds at the last reading: an until there lets through
+pub silencing-last : (c : Params) (epoch : Option ℕ) (m : Memory) → IfAny (SilenceFits c) (m .silence) → silencing epoch lastReading m ≡ false
+unfolding silencing
+silencing-last c epoch m f = of-silence (m .silence) f
   where
-    go : (x z : Bool) → leb (now + asNanos d) lastReading ≡ x → Word (reach k now (half d))
-        → Word (option (if x then some (now + asNanos d) else none) (if z then now else reach k now (half d)) (λ at. at))
-    go true z e ih = let h : now + asNanos d ≤ lastReading = leb-true (now + asNanos d) lastReading e in omega arith
-    go false true e ih = w
-    go false false e ih = ih
+    of-until : (until : Option ℕ) (b : Bool) → IfAny Word until → option until false (λ u. ltb lastReading u) && b ≡ false
+    of-until none b w = refl
+    of-until (some u) b w = rw (le-ltb lastReading u (omega arith))
 
-pub deadline-word : (now : ℕ) (d : Duration) → Word now → Word (deadline now d)
-unfolding deadline
-deadline-word now d w = reach-most 64 now (shortest d ceiling) w
+    of-silence : (s : Option Silence) → IfAny (SilenceFits c) s → option s false (λ s. option (s .until) false (λ u. ltb lastReading u) && not (differ (s .epoch) epoch)) ≡ false
+    of-silence none f = refl
+    of-silence (some s) f = of-until (s .until) (not (differ (s .epoch) epoch)) (f .until)
+
+-- ---- ages
 
 pub younger-nanos : (span now was : ℕ) → younger span now was ≡ ltb (now - was) span
 unfolding younger saturatingSince

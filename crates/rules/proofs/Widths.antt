@@ -84,8 +84,8 @@ module _ (c : Params) (now : ℕ) (w : Word now) where
     kind = tt;
     msg1 = d;
     sent = omega arith;
-    next = if-by (IfAny Word) (ltb 0 (c .resends)) (λ z. deadline-word now _ w) (λ z. tt);
-    deadline = deadline-word now _ w;
+    next = if-by (IfAny Word) (ltb 0 (c .resends)) (λ z. deadline-word now _) (λ z. tt);
+    deadline = deadline-word now _;
     lease = e;
   }
 
@@ -98,7 +98,7 @@ module _ (c : Params) (now : ℕ) (w : Word now) where
     msg1 = h .bytes;
     sent = omega arith;
     next = tt;
-    deadline = deadline-word now _ w;
+    deadline = deadline-word now _;
     lease = h .lease;
   }
 
@@ -110,7 +110,7 @@ module _ (c : Params) (now : ℕ) (w : Word now) where
     kind = x .kind;
     msg1 = x .msg1;
     sent = counter-word (g .sent);
-    next = if-by (IfAny Word) (ltb (saturatingAdd (g .sent) 1) (c .resends)) (λ z. deadline-word now _ w) (λ z. tt);
+    next = if-by (IfAny Word) (ltb (saturatingAdd (g .sent) 1) (c .resends)) (λ z. deadline-word now _) (λ z. tt);
     deadline = x .deadline;
     lease = x .lease;
   }

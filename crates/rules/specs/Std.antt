@@ -42,14 +42,6 @@ shorter a b = ltb (a .secs) (b .secs) || (eqb (a .secs) (b .secs) && ltb (a .nan
 unfoldable pub shortest : Duration → Duration → Duration
 shortest a b = if shorter b a then b else a
 
--- `is_zero`: whether the span has no length.
-unfoldable pub isZero : Duration → Bool
-isZero d = eqb (d .secs) 0 && eqb (d .nanos) 0
-
--- `d / 2`: half the span; what is left below a nanosecond is dropped.
-unfoldable pub half : Duration → Duration
-half d = fromNanos (asNanos d / 2)
-
 -- ---- Instant, here a reading of 64-bit nanoseconds
 
 abbrev pub lastReading : ℕ

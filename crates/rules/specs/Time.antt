@@ -1,9 +1,9 @@
 -- The settings and the two pieces of time arithmetic (params.rs).
 use mathlib.Core.Bool.{Bool, _||_}
-use Prim.Native.Nat.{ℕ, zero, suc, _*_}
+use Prim.Native.Nat.{ℕ, _*_}
 use lib.Dec.{eqb, ltb}
-use Rattle.rules.specs.Base.{if_then_else_, option}
-use Rattle.rules.specs.Std.{Duration, fromNanos, fromSecs, saturatingMul, shorter, shortest, isZero, half, checkedAdd, saturatingSince, u32Max, checkedShl}
+use Rattle.rules.specs.Base.{option}
+use Rattle.rules.specs.Std.{Duration, fromNanos, fromSecs, saturatingMul, shorter, shortest, lastReading, checkedAdd, saturatingSince, u32Max, checkedShl}
 
 -- Spans are nanoseconds, as a record of new gives them.
 pub record Params : Type 0 where
@@ -52,15 +52,9 @@ backoff exponent base cap = shortest (saturatingMul base (option (checkedShl 1 e
 abbrev pub ceiling : Duration
 ceiling = fromSecs (100 * 365 * 24 * 60 * 60)
 
--- `now` and the step, halved until the sum fits; at most so many turns, of which 63 are enough for any step up to the ceiling
-unfoldable pub reach : ℕ → ℕ → Duration → ℕ
-reach zero now step = now
-reach (suc turns) now step =
-    let rest : ℕ = reach turns now (half step) in
-    option (checkedAdd now step) (if isZero step then now else rest) λ at. at
-
+-- `now` and the span, cut to the ceiling first; where that sum does not fit, the last reading
 unfoldable pub deadline : ℕ → Duration → ℕ
-deadline now d = reach 64 now (shortest d ceiling)
+deadline now d = option (checkedAdd now (shortest d ceiling)) lastReading λ at. at
 
 -- whether a reading is younger than a span; an earlier reading has age 0
 unfoldable pub younger : ℕ → ℕ → ℕ → Bool
