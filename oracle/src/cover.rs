@@ -2,10 +2,12 @@
 
 use std::collections::BTreeMap;
 
+use crate::dump;
 use crate::generate;
 use crate::profile::NAMES;
 use crate::proto::settle::output::{Build, Output};
 use crate::tape::{self, Step, Tape};
+use crate::time;
 use crate::write::{denial_code, source_code, transition_code, why_code};
 
 const CALLS: [&str; 18] = [
@@ -86,7 +88,23 @@ impl Counts {
         for s in &steps {
             self.step(s);
         }
+        if steps.iter().any(|s| s.past > 0) {
+            self.past(bytes);
+        }
         self.end(&tape);
+    }
+
+    /// A tape with a sum past the last reading: whether the unchanged
+    /// reference writes otherwise, and whether it leaves other tables.
+    fn past(&mut self, bytes: &[u8]) {
+        self.add("past tapes".into(), 1);
+        let dumps = || tape::tables(bytes, dump::dump);
+        for (row, other) in [
+            ("outputs", tape::run(bytes) != time::unchanged(|| tape::run(bytes))),
+            ("tables", dumps() != time::unchanged(dumps)),
+        ] {
+            self.add(format!("past tapes, other {row}"), other.into());
+        }
     }
 
     fn step(&mut self, s: &Step) {
@@ -97,6 +115,9 @@ impl Counts {
                 self.add(format!("call {name}"), 1);
                 if outputs.is_empty() {
                     self.add(format!("silent {name}"), 1);
+                }
+                if s.past > 0 {
+                    self.add(format!("past sums {name}"), s.past);
                 }
                 for o in outputs {
                     self.output(o);

@@ -89,6 +89,9 @@ impl Generator {
     }
 
     fn start(&mut self) -> u64 {
+        if let Some(left) = self.profile.clock_left {
+            return u64::MAX - left;
+        }
         match self.profile.pace {
             Pace::Wild => self.wild(),
             Pace::Near | Pace::Slow => self.r.pick(&[0, 0, 1, 1_000_000_000, 1 << 40]).unwrap_or(0),
@@ -526,7 +529,12 @@ impl Generator {
 
     // ---- clock
 
+    /// Where a clock that started close to its end has come to it, it now and
+    /// then goes back.
     fn tick(&mut self) -> u64 {
+        if let Some(left) = self.profile.clock_left && self.now == u64::MAX && self.r.chance(30) {
+            return u64::MAX - self.r.below(left + 1);
+        }
         let step = |n: u64, by: u64| n.saturating_add(by);
         let slow = self.profile.pace == Pace::Slow;
         match self.r.below(if slow { 100 } else { 20 }) {
@@ -580,7 +588,7 @@ impl Generator {
         times.dedup();
         times.truncate(3);
         let at = self.r.pick(&times).unwrap_or(now);
-        if self.r.chance(25) { at - 1 } else { at }
+        if self.r.chance(25) { at.saturating_sub(1) } else { at }
     }
 }
 

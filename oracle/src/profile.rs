@@ -3,8 +3,8 @@
 
 use crate::random::Random;
 
-pub const NAMES: [&str; 8] =
-    ["few", "full", "gates", "silences", "extreme", "last", "damaged", "mixed"];
+pub const NAMES: [&str; 9] =
+    ["few", "full", "gates", "silences", "extreme", "last", "damaged", "mixed", "soak"];
 
 #[derive(Clone, Copy, PartialEq, Eq)]
 pub enum Settings {
@@ -50,6 +50,8 @@ pub struct Profile {
     pub calls: usize,
     pub settings: Settings,
     pub pace: Pace,
+    /// The clock starts this far below its last reading.
+    pub clock_left: Option<u64>,
     /// Link numbers start this far below 2^64 - 1.
     pub near_last: Option<u64>,
     /// Of 100 records, how many are damaged.
@@ -81,6 +83,7 @@ pub fn named(name: &str, r: &mut Random) -> Option<Profile> {
         calls: 120,
         settings: Settings::Default,
         pace: Pace::Near,
+        clock_left: None,
         near_last: None,
         damage: 0,
         weights: EVEN,
@@ -101,6 +104,7 @@ pub fn named(name: &str, r: &mut Random) -> Option<Profile> {
         "last" => Profile { near_last: Some(r.below(12)), settings: either(r), ..even },
         "damaged" => Profile { damage: 4 + r.below(40), settings: either(r), ..even },
         "mixed" => mixed(r, even)?,
+        "soak" => soak(r, even),
         _ => return None,
     })
 }
@@ -142,6 +146,13 @@ fn gates(r: &mut Random, even: Profile) -> Profile {
         weights: if silent { SILENT } else { GATES },
         ..even
     }
+}
+
+/// Short or default intervals under a clock that ends soon.
+fn soak(r: &mut Random, even: Profile) -> Profile {
+    let base = if r.chance(60) { gates(r, even) } else { Profile { settings: either(r), ..even } };
+    let bits = r.below(38);
+    Profile { clock_left: Some(r.below(1 << bits)), ..base }
 }
 
 /// One of the others, with some of another's ways.

@@ -1,7 +1,11 @@
 //! The program settle-tape, fed with bytes as they come.
+//!
+//! `run` and `tables` also run each tape with the clock unchanged: where every
+//! sum of the tape fits, the reference says the same.
 
 use crate::node::{Node, RECORD};
 use crate::proto::settle::output::Output;
+use crate::time;
 use crate::write;
 
 /// What a record came to: its kind byte if it has one, and the outputs or
@@ -9,6 +13,8 @@ use crate::write;
 pub struct Step {
     pub kind: Option<u8>,
     pub result: Result<Vec<Output>, u8>,
+    /// Of a call not refused, how many sums lie past the last reading.
+    pub past: u64,
 }
 
 #[derive(Default)]
@@ -40,7 +46,7 @@ impl Tape {
             return None;
         }
         self.ended = true;
-        Some(Step { kind: None, result: Err(RECORD) })
+        Some(Step { kind: None, result: Err(RECORD), past: 0 })
     }
 
     /// Whether the program has ended, or reads a record that is not whole.
@@ -61,20 +67,19 @@ impl Tape {
     }
 
     fn step(&mut self, body: &[u8]) -> Step {
-        let result = match &mut self.node {
-            Some(node) => node.call(body),
-            None => match Node::new(body) {
-                Ok(node) => {
-                    self.node = Some(node);
-                    Ok(Vec::new())
-                }
-                Err(number) => {
-                    self.ended = true;
-                    Err(number)
-                }
-            },
-        };
-        Step { kind: body.get(1).copied(), result }
+        let (result, past) = time::counted(|| self.settle(body));
+        let past = if result.is_ok() { past } else { 0 };
+        Step { kind: body.get(1).copied(), result, past }
+    }
+
+    fn settle(&mut self, body: &[u8]) -> Result<Vec<Output>, u8> {
+        if let Some(node) = &mut self.node {
+            return node.call(body);
+        }
+        let made = Node::new(body);
+        self.ended = made.is_err();
+        self.node = Some(made?);
+        Ok(Vec::new())
     }
 }
 
@@ -89,6 +94,24 @@ pub fn steps(bytes: &[u8]) -> (Tape, Vec<Step>) {
 /// What `told` makes of the table after each record, a cut last one too, one
 /// behind another. Nothing where there is no table.
 pub fn tables(bytes: &[u8], told: fn(&Node) -> Vec<u8>) -> Vec<u8> {
+    settled(bytes, |bytes| left(bytes, told))
+}
+
+/// What the program writes.
+pub fn run(bytes: &[u8]) -> Vec<u8> {
+    settled(bytes, written)
+}
+
+/// What `told` makes of a tape.
+fn settled(bytes: &[u8], told: impl Fn(&[u8]) -> Vec<u8>) -> Vec<u8> {
+    let out = told(bytes);
+    let fits = steps(bytes).1.iter().all(|s| s.past == 0);
+    let same = !fits || out == time::unchanged(|| told(bytes));
+    assert!(same, "where every sum fits, the clocks agree");
+    out
+}
+
+fn left(bytes: &[u8], told: fn(&Node) -> Vec<u8>) -> Vec<u8> {
     let mut tape = Tape { rest: bytes.to_vec(), ..Tape::default() };
     let mut out = Vec::new();
     while tape.next().or_else(|| tape.end()).is_some() {
@@ -97,8 +120,7 @@ pub fn tables(bytes: &[u8], told: fn(&Node) -> Vec<u8>) -> Vec<u8> {
     out
 }
 
-/// What the program writes.
-pub fn run(bytes: &[u8]) -> Vec<u8> {
+fn written(bytes: &[u8]) -> Vec<u8> {
     let (tape, steps) = steps(bytes);
     let mut out = Vec::new();
     for s in &steps {
