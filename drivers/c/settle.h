@@ -2,7 +2,8 @@
  *
  * The library keeps nothing of its own: no memory but what is lent, no clock, no sockets. The driver lends a table, a record and a
  * buffer for the length of one call, and does what the outputs say: it sends, dials and closes connections, and gives leases (receive
- * indices) back. Records and outputs are those of docs/RECORDS.md, integers big-endian.
+ * indices) back. Records and outputs are those of docs/RECORDS.md, integers big-endian. A clock reading is 64 bits of nanoseconds; what
+ * would be due past 2^64 - 1 is due at 2^64 - 1.
  *
  * Proved of these functions, for every record, buffer and clock: crates/settle/specs/Contract.antt; for every list of calls:
  * crates/settle/specs/Promise.antt.

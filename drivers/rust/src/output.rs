@@ -59,6 +59,7 @@ pub enum Output<'a> {
     Free { lease: u32 },
     Retry { peer: Peer },
     Reject { asker: Option<(Peer, Source)>, why: Reason },
+    /// When the next poll is due: a clock reading, at most 2^64 - 1, which stands for every later time too.
     Wake { at: Option<u64> },
     /// A record that reads as none of these, whole: the linked library is another version. What it asks for stays undone.
     Unknown { record: &'a [u8] },
