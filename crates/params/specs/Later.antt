@@ -1,25 +1,20 @@
 -- The time arithmetic of the code against the rules: the shift, the product that is cut, the sum that may not fit.
 use mathlib.Core.Path.{_≡_, refl, sym, ap, _∙_}
-use mathlib.Core.Bool.{Bool, true, false}
 use Prim.Native.Nat.{ℕ, _+_, _-_, _*_, _/_, _%_, _^_, _≤_, _<_, min}
-use native.Mathlib.Nat.{le-div-iff-mul-le, div-lt-iff-lt-mul, one-mul}
+use native.Mathlib.Nat.{le-div-iff-mul-le, div-lt-iff-lt-mul}
 use native.Mathlib.Omega.{arith}
 use borrow.Author.Needs.{needs}
-use borrow.Author.Tests.{lt-ltb, le-ltb, ltb-true}
-use mathlib.Core.Option.{none, some}
+use borrow.Author.Tests.{lt-ltb, le-ltb}
 use lib.Dec.{ltb, lit<}
-use lib.Pow.{shl-exact, pow-pos}
+use lib.Pow.{pow-pos}
 use mir.Syntax.{w64}
 use mir.Val.{Fits}
 use Rattle.rules.specs.Base.{option, if_then_else_}
 use Rattle.rules.specs.Std.{fromNanos, durationMax, saturatingSince, checkedShl, u32Max}
 use Rattle.rules.specs.Time as rule
-use Rattle.rules.proofs.Time.{factor, ceilingNanos, backoff-nanos, deadline-nanos, resend-nanos, younger-nanos}
+use Rattle.rules.proofs.Time.{ceilingNanos, shl-one, shifted, backoff-nanos, deadline-nanos, resend-nanos, younger-nanos}
 
 -- ---- the factor
-shifted : (e : ℕ) → e < 32 → (1 * 2 ^ e) % 2 ^ 32 ≡ 2 ^ e
-shifted e h = shl-exact {a = 1} 1 e 32 (lit< tt) (omega arith) ∙ one-mul (2 ^ e)
-
 -- 2 ^ e below 32, and from there on the greatest of 32 bits
 abbrev pub power : ℕ → ℕ
 power e = if ltb e 32 then 2 ^ e else 2 ^ 32 - 1
@@ -30,10 +25,10 @@ module _ (e : ℕ) (h : e < 32) where
   factor-shift = rw (lt-ltb e 32 h)
 
   pub power-shift : (1 * 2 ^ e) % 2 ^ 32 ≡ power e
-  power-shift = rw (lt-ltb e 32 h) (shifted e h)
+  power-shift = rw (lt-ltb e 32 h) (shl-one e h)
 
   pub shift-some : 0 < (1 * 2 ^ e) % 2 ^ 32
-  shift-some = rw (shifted e h) (pow-pos e)
+  shift-some = rw (shl-one e h) (pow-pos e)
 
 pub factor-most : (e : ℕ) → 32 ≤ e → 4294967295 ≡ option (checkedShl 1 e) u32Max (λ f. f)
 unfolding checkedShl
@@ -42,17 +37,9 @@ factor-most e h = rw (le-ltb e 32 h)
 pub power-most : (e : ℕ) → 32 ≤ e → 4294967295 ≡ power e
 power-most e h = rw (le-ltb e 32 h)
 
-factor-is : (e : ℕ) → option (checkedShl 1 e) u32Max (λ f. f) ≡ factor e
-unfolding checkedShl factor
-factor-is e = go (ltb e 32) refl
-  where
-    go : (x : Bool) → ltb e 32 ≡ x → option (if x then some ((1 * 2 ^ e) % 2 ^ 32) else none) u32Max (λ f. f) ≡ (if x then 2 ^ e else 2 ^ 32 - 1)
-    go true p = shifted e (ltb-true e 32 p)
-    go false p = refl
-
 -- ---- the quotient
 pub parted-shift : (n e : ℕ) → e < 32 → n / 2 ^ e ≡ n / option (checkedShl 1 e) u32Max (λ f. f)
-parted-shift n e h = rw (← factor-shift e h, shifted e h)
+parted-shift n e h = rw (← factor-shift e h, shl-one e h)
 
 pub parted-most : (n e : ℕ) → 32 ≤ e → n / 4294967295 ≡ n / option (checkedShl 1 e) u32Max (λ f. f)
 parted-most n e h = rw (← factor-most e h)
@@ -66,7 +53,7 @@ module _ (e f q base cap : ℕ) (p : f ≡ option (checkedShl 1 e) u32Max (λ f.
   backoff-cap h =
       let l : cap < base * f = div-lt-iff-lt-mul z .0 (rw quotient at h) in
       let m : cap ≡ min (base * f) cap = omega arith in
-      ap fromNanos m ∙ rw (p ∙ factor-is e) (sym (backoff-nanos e base cap (w .fits)))
+      ap fromNanos m ∙ rw (p ∙ shifted e) (sym (backoff-nanos e base cap (w .fits)))
 
   product-most : base ≤ q → base * f ≤ cap
   product-most h = le-div-iff-mul-le z .0 (rw quotient at h)
@@ -75,7 +62,7 @@ module _ (e f q base cap : ℕ) (p : f ≡ option (checkedShl 1 e) u32Max (λ f.
   backoff-whole h =
       let l : base * f ≤ cap = product-most h in
       let m : base * f ≡ min (base * f) cap = omega arith in
-      ap fromNanos m ∙ rw (p ∙ factor-is e) (sym (backoff-nanos e base cap (w .fits)))
+      ap fromNanos m ∙ rw (p ∙ shifted e) (sym (backoff-nanos e base cap (w .fits)))
 
   pub product-fits : base ≤ q → Fits w64 (base * f)
   product-fits h = let l : base * f ≤ cap = product-most h in omega arith

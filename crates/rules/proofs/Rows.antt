@@ -6,7 +6,7 @@ use mathlib.Core.List.{List, [], _∷_, _++_}
 use Prim.Native.Nat.{ℕ, zero, suc, _+_, _-_}
 use lib.ListN.{replicate}
 use Rattle.rules.specs.Base.{option, Bytes}
-use Rattle.rules.specs.Data.{Pair, Proven, Live, Acked, Probing, Hello, Table, Call, Source, Why, Gate, Refusal, Unheard, Dampened, Replayed, Silent, Output, Step, Opened, Resend, Retire, Free, Reject}
+use Rattle.rules.specs.Data.{Pair, Proven, Live, Acked, Probing, Silence, Hello, Table, Call, Source, Why, Gate, Refusal, Unheard, Dampened, Replayed, Silent, Output, Step, Opened, Resend, Retire, Free, Reject}
 use Rattle.rules.specs.Field.{more, digits, bind, bytes, number, upTo, code, pair, message, pairBytes, messageBytes, frame}
 use Rattle.rules.specs.Record.{Timed, hello, dialFields, linkFields, arrivedFields, msg1Fields, replacementFields, msg2Fields, restartedFields, heardFields, removeFields, pathFields, releaseFields, kinds, timed, settings, form, beginFields, begin, framed, readCall, readNew, settingsBytes, formBytes, spellNew}
 use Rattle.rules.specs.Std.{fromNanos, durationMax, lastReading, saturatingMul, shorter, shortest, checkedAdd, saturatingSince, checkedShl, insert}
@@ -91,6 +91,10 @@ ending now n = holds now 5 n n ++ (on now (Call.Remove them Why.Ended) ∷ [])
 -- three of them 10 ns below the last reading
 abbrev pub endingsLast : List Timed
 endingsLast = ending (lastReading - 10) 1 ++ ending (lastReading - 10) 2 ++ ending (lastReading - 10) 3
+
+-- what the first of them leaves
+abbrev pub endedLast : Silence
+endedLast = record { epoch = some 5; count = 1; last = lastReading - 10; until = none; counted = replicate 32 1 ∷ [] }
 
 abbrev pub rejected : Source → Refusal → ℕ → List Output
 rejected s r l = Reject (some (them, s)) (Gate r) ∷ Free l ∷ []
@@ -229,6 +233,9 @@ pub record Rows : Type 0 where
   -- The same where until is the last reading.
   pub silence-last-on : says endingsLast (msg1s (lastReading - 1) 5 4) ≡ rejected Source.NotHeld Silent 4
   pub silence-last-over : says endingsLast (msg1s lastReading 5 4) ≡ Output.Answer 4 false (2 ∷ []) ∷ []
+  -- A horizon whose sum does not fit expires at the last reading, and not before.
+  pub horizon-last-on : expired default (lastReading - 1) endedLast ≡ false
+  pub horizon-last-over : expired default lastReading endedLast ≡ true
   -- Retiring a leg without paths whose setup another leg shares closes nothing.
   pub shared-setup : says (dials 0 them 9 ∷ dials 0 (replicate 16 0x23) 10 ∷ []) (on 0 (Call.Abandon 1)) ≡ Free 9 ∷ Retire 1 [] ∷ []
   -- The worked tape: new; dial; abandon. Done; Opened 1, Done; Free 9, Retire 1 closing the pair, Done.
@@ -287,6 +294,8 @@ rows = record {
   silence-over = refl;
   silence-last-on = refl;
   silence-last-over = refl;
+  horizon-last-on = refl;
+  horizon-last-over = refl;
   shared-setup = refl;
   tape = refl;
   tape-second-new = refl;

@@ -13,7 +13,7 @@ use Rattle.rules.specs.Std.{Duration, asNanos, fromNanos, durationMax, s
 use Rattle.rules.specs.Time.{Params, backoff, ceiling, deadline, younger}
 use Rattle.rules.specs.Data.{Memory, Silence}
 use Rattle.rules.specs.Gates.{differ, silencing, expired}
-use Rattle.rules.specs.Bounds.{Word, IfAny, SilenceFits}
+use Rattle.rules.specs.Bounds.{Word, IfAny}
 
 -- ---- the plain forms
 
@@ -65,12 +65,15 @@ mul-nanos a k = rw (nanos-back a) (go (leb (a * k) longest) refl)
 
 -- ---- backoff
 
-shifted : (e : ℕ) → option (checkedShl 1 e) u32Max (λ f. f) ≡ factor e
+pub shl-one : (e : ℕ) → e < 32 → (1 * 2 ^ e) % 2 ^ 32 ≡ 2 ^ e
+shl-one e h = shl-exact {a = 1} 1 e 32 (lit< tt) (omega arith) ∙ one-mul (2 ^ e)
+
+pub shifted : (e : ℕ) → option (checkedShl 1 e) u32Max (λ f. f) ≡ factor e
 unfolding checkedShl factor
 shifted e = go (ltb e 32) refl
   where
     go : (x : Bool) → ltb e 32 ≡ x → option (if x then some ((1 * 2 ^ e) % 2 ^ 32) else none) u32Max (λ f. f) ≡ (if x then 2 ^ e else 2 ^ 32 - 1)
-    go true p = shl-exact {a = 1} 1 e 32 (lit< tt) (omega (arith, ltb-true e 32 p)) ∙ one-mul (2 ^ e)
+    go true p = shl-one e (ltb-true e 32 p)
     go false p = refl
 
 backoff-long : (e base cap : ℕ) → cap ≤ longest → backoff e (fromNanos base) (fromNanos cap) ≡ fromNanos (min (base * factor e) cap)
@@ -128,17 +131,17 @@ expired-last c now r h =
     rw at
 
 -- no silence holds at the last reading: an until there lets through
-pub silencing-last : (c : Params) (epoch : Option ℕ) (m : Memory) → IfAny (SilenceFits c) (m .silence) → silencing epoch lastReading m ≡ false
+pub silencing-last : (epoch : Option ℕ) (m : Memory) → IfAny (λ s. IfAny Word (s .until)) (m .silence) → silencing epoch lastReading m ≡ false
 unfolding silencing
-silencing-last c epoch m f = of-silence (m .silence) f
+silencing-last epoch m f = of-silence (m .silence) f
   where
     of-until : (until : Option ℕ) (b : Bool) → IfAny Word until → option until false (λ u. ltb lastReading u) && b ≡ false
     of-until none b w = refl
     of-until (some u) b w = rw (le-ltb lastReading u (omega arith))
 
-    of-silence : (s : Option Silence) → IfAny (SilenceFits c) s → option s false (λ s. option (s .until) false (λ u. ltb lastReading u) && not (differ (s .epoch) epoch)) ≡ false
+    of-silence : (s : Option Silence) → IfAny (λ s. IfAny Word (s .until)) s → option s false (λ s. option (s .until) false (λ u. ltb lastReading u) && not (differ (s .epoch) epoch)) ≡ false
     of-silence none f = refl
-    of-silence (some s) f = of-until (s .until) (not (differ (s .epoch) epoch)) (f .until)
+    of-silence (some s) f = of-until (s .until) (not (differ (s .epoch) epoch)) f
 
 -- ---- ages
 
