@@ -7,17 +7,21 @@ use Prim.Native.Nat.{ℕ}
 use Rattle.rules.specs.Base.{Bytes, option, is}
 use Rattle.rules.specs.Time.{Params}
 use Rattle.rules.specs.Data as rule
-use Rattle.rules.specs.Gates.{gate, memory}
+use Rattle.rules.specs.Gates.{memoryOf, memory, silencedFor, judged}
 use Rattle.rules.specs.Settle.{heldAt, full, denied}
+use Rattle.lib_laws.specs.Scan.{scan}
 use Rattle.node_addr.specs.declared.Digest.{Digest}
+use Rattle.node_addr.specs.declared.Found.{Found}
+use Rattle.node_addr.specs.View.{Finds}
 use Rattle.gates_types.specs.declared.Source.{Source}
 use Rattle.gates_types.specs.declared.Liveness.{Liveness}
 use Rattle.gates_types.specs.declared.Verdict.{Verdict}
 use Rattle.gates_types.specs.declared.Verdict.the-variants as verdict
 use Rattle.gates_types.specs.declared.Refusal.{Refusal}
 use Rattle.gates_types.specs.declared.Denial.{Denial}
-use Rattle.gates_types.specs.View.{optional, sourceOf, refusalOf, denialOf, refusedBy, viewLiveness, asking}
-use Rattle.gates_types.specs.Judge.{Alike, gate-alike}
+use Rattle.gates_types.specs.View.{optional, sourceOf, refusalOf, denialOf, refusedBy, viewLiveness}
+use Rattle.gates_types.specs.Judge.{Alike, judged-alike}
+use Rattle.gates.specs.Place.{memoryIn, silenced-in, judged-in}
 use Rattle.held.specs.View.{lastHeard}
 use Rattle.call_admit.specs.declared.ruling.Ruling.{Ruling}
 use Rattle.call_admit.specs.declared.ruling.Ruling.the-variants as ruling
@@ -49,28 +53,40 @@ pub lives-some : (h : rule.Held) {l : Liveness} → l .held ≡ true → l .hear
 lives-some h e a b c d = record { alike = rw (e, c, d) (a, b, dated-last (h .last)) }
 
 -- ---- the ruling
-pub denied-full : (x : rule.Table) (now : ℕ) (s : rule.Source) (y : rule.Hello) {b : Bool} → b ≡ full x → b ≡ true → some rule.Full ≡ denied now s y x
-unfolding denied
-denied-full x now s y e q = rw (sym e ∙ q)
 
--- what the gate says, as a denial
-abbrev gated : Option rule.Refusal → Option rule.Denial
-gated o = option o none λ r. some (rule.Gate r)
+-- what is judged, as a denial
+abbrev judgement : Option rule.Refusal → Option rule.Denial
+judgement o = option o none λ r. some (rule.Gate r)
 
-module _ (x : rule.Table) (now : ℕ) (k : Source) (p : Bytes) (d : Digest) (n : ℕ) (q : full x ≡ false) {c : Params} (f : c ≡ x .params) {l : Liveness} (a : Lives l (heldAt p x)) where
-  by-gate : (v : Verdict) → refusedBy v ≡ gate c now (asking k l d n) (memory p (x .gates)) → gated (refusedBy v) ≡ denied now (sourceOf k) (asks p (d .0) n) x
+-- the peer's memory was found at the place, or none was
+module _ (x : rule.Table) (now : ℕ) (k : Source) (p : Bytes) (d : Digest) (n : ℕ) {place : Found} (f : Finds place (scan (memoryOf p) 0 (x .gates))) where
+  silenced : {b v : Bool} → b ≡ silencedFor now (sourceOf k) (some n) (memoryIn place (x .gates)) → b ≡ v → silencedFor now (sourceOf k) (some n) (memory p (x .gates)) ≡ v
+  silenced e q = sym (silenced-in p (x .gates) place f now (sourceOf k) (some n)) ∙ sym e ∙ q
+
+  pub denied-silent : {b : Bool} → b ≡ silencedFor now (sourceOf k) (some n) (memoryIn place (x .gates)) → b ≡ true → some (rule.Gate rule.Silent) ≡ denied now (sourceOf k) (asks p (d .0) n) x
   unfolding denied
-  by-gate v j =
-      let alike = gate-alike (x .params) now (memory p (x .gates)) (sourceOf k) (some (d .0)) (some n) (viewLiveness l) (heldAt p x) (a .alike) in
-      rw q (ap gated (rw f at j ∙ alike))
+  denied-silent e q = rw (silenced e q)
 
-  -- it passes, or refuses
-  pub denied-pass : (v : Verdict) → refusedBy v ≡ gate c now (asking k l d n) (memory p (x .gates)) → v ≡ verdict.Pass → none ≡ denied now (sourceOf k) (asks p (d .0) n) x
-  denied-pass v j w = rw w at (by-gate v j)
+  module _ {b : Bool} (e : b ≡ silencedFor now (sourceOf k) (some n) (memoryIn place (x .gates))) (q : b ≡ false) where
+    pub denied-full : {w : Bool} → w ≡ full x → w ≡ true → some rule.Full ≡ denied now (sourceOf k) (asks p (d .0) n) x
+    unfolding denied
+    denied-full g h = rw (silenced e q, sym g ∙ h)
 
-  pub denied-refuse : (v : Verdict) → refusedBy v ≡ gate c now (asking k l d n) (memory p (x .gates)) → (r : Refusal) → v ≡ verdict.Refuse r
-      → some (rule.Gate (refusalOf r)) ≡ denied now (sourceOf k) (asks p (d .0) n) x
-  denied-refuse v j r w = rw w at (by-gate v j)
+    module _ {w : Bool} (g : w ≡ full x) (h : w ≡ false) {c : Params} (i : c ≡ x .params) {l : Liveness} (a : Lives l (heldAt p x)) where
+      by-judgement : (v : Verdict) → refusedBy v ≡ judged c now (sourceOf k) (viewLiveness l) (d .0) (memoryIn place (x .gates)) → judgement (refusedBy v) ≡ denied now (sourceOf k) (asks p (d .0) n) x
+      unfolding denied
+      by-judgement v j =
+          let same = judged-in p (x .gates) place f (x .params) now (sourceOf k) (viewLiveness l) (d .0) in
+          let alike = judged-alike (x .params) now (memory p (x .gates)) (sourceOf k) (d .0) (viewLiveness l) (heldAt p x) (a .alike) in
+          rw (silenced e q, sym g ∙ h) (ap judgement (rw i at j ∙ same ∙ alike))
+
+      -- it passes, or refuses
+      pub denied-pass : (v : Verdict) → refusedBy v ≡ judged c now (sourceOf k) (viewLiveness l) (d .0) (memoryIn place (x .gates)) → v ≡ verdict.Pass → none ≡ denied now (sourceOf k) (asks p (d .0) n) x
+      denied-pass v j z = rw z at (by-judgement v j)
+
+      pub denied-refuse : (v : Verdict) → refusedBy v ≡ judged c now (sourceOf k) (viewLiveness l) (d .0) (memoryIn place (x .gates)) → (r : Refusal) → v ≡ verdict.Refuse r
+          → some (rule.Gate (refusalOf r)) ≡ denied now (sourceOf k) (asks p (d .0) n) x
+      denied-refuse v j r z = rw z at (by-judgement v j)
 
 -- ---- what a ruling tells of a hello
 module _ (now : ℕ) (s : rule.Source) (y : rule.Hello) (x : rule.Table) {r : Ruling} (q : deniedBy r ≡ denied now s (asks (y .peer) (y .ephemeral) (y .epoch)) x) where

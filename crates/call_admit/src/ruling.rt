@@ -1,11 +1,14 @@
 // Whether a msg1 is admitted. The ruling reads the peer, the digest and the epoch of it.
 use gates_types::Denial;
 use gates_types::Liveness;
+use gates_types::Refusal;
 use gates_types::Source;
 use gates_types::Verdict;
 use node_addr::Digest;
 use node_addr::NodeAddr;
-use table_gates::gate;
+use table_gates::find_memory;
+use table_gates::judged;
+use table_gates::silenced_for;
 use table_held::held_has_last;
 use table_held::held_heard;
 use table_held::held_installed;
@@ -46,7 +49,7 @@ fn liveness_at(t: &[u8], i: usize) -> Liveness
     }
 }
 
-// Full, else what the gate says; `l` is what is judged of the peer's holder, if it has one.
+// Silent, then Full, then the other judgements; `l` is what is judged of the peer's holder, if it has one.
 fn ruled(
     t: &[u8],
     l: Liveness,
@@ -60,11 +63,15 @@ fn ruled(
     requires { ⌜ Lives l (rule.heldAt (peer .0) (viewTable (now t))) ⌝ }
     ensures { λ r. ⌜ deniedBy r ≡ rule.denied clock (sourceOf source) (asks (peer .0) (digest .0) epoch) (viewTable (now (t .entry))) ⌝ }
 {
+    let place = find_memory(t, peer);
+    if silenced_for(t, place, source, epoch, clock) {
+        return Ruling::Deny(Denial::Gate(Refusal::Silent));
+    }
     if full(t) {
         return Ruling::Deny(Denial::Full);
     }
     let c = params_of(t);
-    match gate(t, peer, source, l, digest, epoch, clock, c) {
+    match judged(t, place, source, l, digest, clock, c) {
         Verdict::Pass => Ruling::Admit,
         Verdict::Refuse(r) => Ruling::Deny(Denial::Gate(r)),
     }

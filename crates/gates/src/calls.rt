@@ -7,8 +7,9 @@ use gates_entry::at::has_silence_at;
 use gates_entry::at::has_stamp_at;
 use gates_entry::at::replay_count_at;
 use gates_entry::load::get_memory;
-use gates_judge::gate_at;
-use gates_judge::gate_blank;
+use gates_judge::judged_at;
+use gates_judge::judged_blank;
+use gates_judge::silenced_at;
 use gates_memory::ended_by;
 use gates_memory::lent::with_clear;
 use gates_memory::promoted_by;
@@ -29,9 +30,10 @@ ghost use Rattle.rules.specs.Std.{Ascending};
 ghost use Rattle.rules.specs.Gates as rule;
 ghost use Rattle.lib_laws.specs.Shift.{erase};
 ghost use Rattle.params.specs.View.{viewParams};
-ghost use Rattle.gates_types.specs.View.{optional, FitParams, Within, refusedBy, asking};
+ghost use Rattle.gates_types.specs.View.{optional, FitParams, Within, sourceOf, refusedBy, viewLiveness};
 ghost use Rattle.gates_entry.specs.View.{viewGates, FitGates, gateCount, memoryAt};
 ghost use Rattle.gates.specs.Order.{Room, still};
+ghost use Rattle.gates.specs.Place.{memoryIn, PlaceIn};
 
 // A msg1 with a digest promoted the peer unheard.
 pub fn promoted(s: &mut [u8], peer: NodeAddr, digest: Digest, clock: u64, c: Params)
@@ -137,22 +139,34 @@ pub fn heard(s: &mut [u8], peer: NodeAddr)
     }
 }
 
-// The judgement of what asks.
-pub fn gate(
+// Whether the silences at a place refuse what asks. The place is that of a peer's memory, or nothing where it has none.
+pub fn silenced_for(s: &[u8], place: Found, source: Source, epoch: u64, clock: u64) -> bool
+    requires { ⌜ FitGates (now s) ⌝ }
+    requires { ⌜ PlaceIn place (viewGates (now s)) ⌝ }
+    ensures { λ r. ⌜ r ≡ rule.silencedFor clock (sourceOf source) (some epoch) (memoryIn place (viewGates (now (s .entry)))) ⌝ }
+{
+    match place {
+        Found::At(i) => silenced_at(s, i, source, epoch, clock),
+        Found::Nothing => false,
+    }
+}
+
+// The other judgements of what asks, by the memory at a place.
+pub fn judged(
     s: &[u8],
-    peer: NodeAddr,
+    place: Found,
     source: Source,
     l: Liveness,
     digest: Digest,
-    epoch: u64,
     clock: u64,
     c: Params,
 ) -> Verdict
     requires { ⌜ FitGates (now s) ⌝ }
-    ensures { λ r. ⌜ refusedBy r ≡ rule.gate (viewParams c) clock (asking source l digest epoch) (rule.memory (peer .0) (viewGates (now (s .entry)))) ⌝ }
+    requires { ⌜ PlaceIn place (viewGates (now s)) ⌝ }
+    ensures { λ r. ⌜ refusedBy r ≡ rule.judged (viewParams c) clock (sourceOf source) (viewLiveness l) (digest .0) (memoryIn place (viewGates (now (s .entry)))) ⌝ }
 {
-    match find_memory(s, peer) {
-        Found::At(i) => gate_at(s, i, source, l, digest, epoch, clock, c),
-        Found::Nothing => gate_blank(source, l, clock, c),
+    match place {
+        Found::At(i) => judged_at(s, i, source, l, digest, clock, c),
+        Found::Nothing => judged_blank(source, l, clock, c),
     }
 }

@@ -9,7 +9,7 @@ use lib.ListN.{take, drop}
 use Rattle.rules.specs.Base.{if_then_else_, option, orElse, Bytes}
 use Rattle.rules.specs.Time.{Params}
 use Rattle.rules.specs.Data.{Silence, Held, Source, Refusal, Dampened, ReplayFull}
-use Rattle.rules.specs.Gates.{blank, differ, recent, silencing, replayed, young, dampened, judge, asksSilence, gated, gate}
+use Rattle.rules.specs.Gates.{blank, differ, recent, silencing, replayed, young, dampened, judge, gated, judged}
 use Rattle.lib_laws.specs.Cell.{num, flagOf, optionNum}
 use Rattle.gates_entry.specs.View.{silenceFrom, silenceOf, FitGates, gateCount, memoryAt}
 use Rattle.gates_entry.specs.Entry.{memory-here, silence-cuts}
@@ -51,17 +51,13 @@ module _ (s : Bytes) (i : ℕ) (f : FitGates s) (h : i < gateCount s) where
   unfolding dampened
   dampened-is c now = ap (dampened c now) (sym (memory-here s i f h))
 
--- ---- a blank memory: no silence, no replay, no stamp
-pub blank-gate : (c : Params) (now : ℕ) (x : Source) (o : Option Held) (d : Bytes) (e : ℕ) (p : Bytes)
-    → gate c now (record { source = x; held = o; ephemeral = some d; epoch = some e }) (blank p)
+-- ---- a blank memory: no replay, no stamp
+pub blank-judged : (c : Params) (now : ℕ) (x : Source) (o : Option Held) (d p : Bytes)
+    → judged c now x o d (blank p)
     ≡ option o none (λ h. if gated x then orElse (if h .heard then none else (if leb (c .replays) 0 then some ReplayFull else none)) (young c now h) else none)
-unfolding gate silencing judge replayed dampened
-blank-gate c now x o d e p = rw (quiet (asksSilence x)) (go o)
+unfolding judged judge replayed dampened
+blank-judged c now x o d p = go o
   where
-    quiet : (b : Bool) → b && false ≡ false
-    quiet true = refl
-    quiet false = refl
-
     last : (r : Option Refusal) → orElse r none ≡ r
     last none = refl
     last (some r) = refl

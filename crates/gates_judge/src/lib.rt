@@ -17,14 +17,12 @@ use node_addr::Digest;
 use params::Params;
 use params::time::younger;
 ghost use mathlib.Core.Path.{_≡_};
-ghost use mathlib.Core.Bool.{_&&_};
 ghost use mathlib.Core.Option.{none, some};
-ghost use Prim.Native.Nat.{ℕ, _<_};
+ghost use Prim.Native.Nat.{_<_};
 ghost use Rattle.rules.specs.Base.{if_then_else_, option, orElse, Bytes};
 ghost use Rattle.rules.specs.Gates as rule;
-ghost use Rattle.node_addr.specs.declared.Digest as digests;
 ghost use Rattle.params.specs.View.{viewParams};
-ghost use Rattle.gates_types.specs.View.{sourceOf, refusedBy, heldOf, asking};
+ghost use Rattle.gates_types.specs.View.{sourceOf, refusedBy, heldOf, viewLiveness};
 ghost use Rattle.gates_entry.specs.View.{FitGates, gateCount, memoryAt};
 
 // Whether the silences of the i-th memory refuse a msg1 at an epoch.
@@ -49,10 +47,10 @@ fn silencing(s: &[u8], i: usize, epoch: u64, clock: u64) -> bool
 }
 
 // Whether they refuse what asks.
-fn silenced_for(s: &[u8], i: usize, source: Source, epoch: u64, clock: u64) -> bool
+pub fn silenced_at(s: &[u8], i: usize, source: Source, epoch: u64, clock: u64) -> bool
     requires { ⌜ FitGates (now s) ⌝ }
     requires { ⌜ i < gateCount (now s) ⌝ }
-    ensures { λ r. ⌜ r ≡ rule.asksSilence (sourceOf source) && rule.silencing (some epoch) clock (memoryAt (now (s .entry)) i) ⌝ }
+    ensures { λ r. ⌜ r ≡ rule.silencedFor clock (sourceOf source) (some epoch) (memoryAt (now (s .entry)) i) ⌝ }
 {
     match source {
         Source::NotHeld => silencing(s, i, epoch, clock),
@@ -184,24 +182,20 @@ fn judge(s: &[u8], i: usize, l: Liveness, digest: Digest, clock: u64, c: Params)
     first_of(a, e)
 }
 
-// The judgement of what asks, by the i-th memory.
-pub fn gate_at(
+// The other judgements of what asks, by the i-th memory.
+pub fn judged_at(
     s: &[u8],
     i: usize,
     source: Source,
     l: Liveness,
     digest: Digest,
-    epoch: u64,
     clock: u64,
     c: Params,
 ) -> Verdict
     requires { ⌜ FitGates (now s) ⌝ }
     requires { ⌜ i < gateCount (now s) ⌝ }
-    ensures { λ r. ⌜ refusedBy r ≡ rule.gate (viewParams c) clock (asking source l digest epoch) (memoryAt (now (s .entry)) i) ⌝ }
+    ensures { λ r. ⌜ refusedBy r ≡ rule.judged (viewParams c) clock (sourceOf source) (viewLiveness l) (digest .0) (memoryAt (now (s .entry)) i) ⌝ }
 {
-    if silenced_for(s, i, source, epoch, clock) {
-        return Verdict::Refuse(Refusal::Silent);
-    }
     if !l.held {
         return Verdict::Pass;
     }
@@ -211,9 +205,9 @@ pub fn gate_at(
     judge(s, i, l, digest, clock, c)
 }
 
-// The judgement of what asks where nothing is remembered of the peer, whatever the digest and the epoch.
-pub fn gate_blank(source: Source, l: Liveness, clock: u64, c: Params) -> Verdict
-    ensures { λ r. ⌜ ((p : Bytes) (d : digests.Digest) (e : ℕ) → refusedBy r ≡ rule.gate (viewParams c) clock (asking source l d e) (rule.blank p)) ⌝ }
+// The same where nothing is remembered of the peer, whatever the digest.
+pub fn judged_blank(source: Source, l: Liveness, clock: u64, c: Params) -> Verdict
+    ensures { λ r. ⌜ ((p d : Bytes) → refusedBy r ≡ rule.judged (viewParams c) clock (sourceOf source) (viewLiveness l) d (rule.blank p)) ⌝ }
 {
     if !l.held {
         return Verdict::Pass;

@@ -12,7 +12,6 @@ use Rattle.rules.specs.Base.{if_then_else_, Bytes}
 use Rattle.rules.specs.Data as rule
 use Rattle.rules.specs.Time as time
 use Rattle.rules.specs.Bounds.{IfAny}
-use Rattle.rules.specs.Gates.{Ask}
 use Rattle.lib_laws.specs.Shift.{Kept, all-replicate}
 use Rattle.node_addr.specs.declared.NodeAddr.{NodeAddr}
 use Rattle.node_addr.specs.declared.Digest.{Digest}
@@ -206,6 +205,3 @@ heldOf l = record {
 
 abbrev pub viewLiveness : Liveness → Option rule.Held
 viewLiveness l = optional (l .held) (heldOf l)
-
-abbrev pub asking : Source → Liveness → Digest → ℕ → Ask
-asking x l d e = record { source = sourceOf x; held = viewLiveness l; ephemeral = some (d .0); epoch = some e }

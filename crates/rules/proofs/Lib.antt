@@ -15,6 +15,7 @@ pub mod Room
 pub mod Bounds
 pub mod Size
 pub mod Records
+pub mod SilentFirst
 pub mod Time
 pub mod Numbers
 pub mod Rows

@@ -6,14 +6,14 @@ use mathlib.Core.List.{List, [], _∷_, _++_}
 use Prim.Native.Nat.{ℕ, zero, suc, _+_, _-_}
 use lib.ListN.{replicate}
 use Rattle.rules.specs.Base.{option, Bytes}
-use Rattle.rules.specs.Data.{Pair, Proven, Live, Acked, Probing, Silence, Hello, Table, Call, Source, Why, Gate, Refusal, Unheard, Dampened, Replayed, Silent, Output, Step, Opened, Resend, Retire, Free, Reject}
+use Rattle.rules.specs.Data.{Pair, Proven, Live, Acked, Probing, Silence, Hello, Table, Call, Source, Why, Full, Gate, Refusal, Unheard, Dampened, Replayed, Silent, Output, Step, Opened, Resend, Retire, Free, Reject}
 use Rattle.rules.specs.Field.{more, digits, bind, bytes, number, upTo, code, pair, message, pairBytes, messageBytes, frame}
 use Rattle.rules.specs.Record.{Timed, hello, dialFields, linkFields, arrivedFields, msg1Fields, replacementFields, msg2Fields, restartedFields, heardFields, removeFields, pathFields, releaseFields, kinds, timed, settings, form, beginFields, begin, framed, readCall, readNew, settingsBytes, formBytes, spellNew}
 use Rattle.rules.specs.Std.{fromNanos, durationMax, lastReading, saturatingMul, shorter, shortest, checkedAdd, saturatingSince, checkedShl, insert}
 use Rattle.rules.specs.Time.{Params, seconds, default, outOfRange, backoff, deadline, younger}
 use Rattle.rules.specs.Links.{uses, inUse, indexed, opened, hold, setPath, path, once, addresses, retiring, released, releasing}
 use Rattle.rules.specs.Legs.{dialLeg, answerLeg, storedMsg2, answering, resent, overdue, resends, wake, nextWake}
-use Rattle.rules.specs.Gates.{memory, store, silencing, replayed, young, dampened, judge, gate, clear, prune, promoted, expired, counting, countedWith, silenced, ended}
+use Rattle.rules.specs.Gates.{memory, store, silencing, replayed, young, dampened, judge, judged, clear, prune, promoted, expired, counting, countedWith, silenced, ended}
 use Rattle.rules.specs.Settle.{still, _▸_, distinct, places, numbering, entering, dial, ends, abandon, storedOn, storedIn, stored, full, arrived, parted, removed, remove, denied, answer, stamp, admitted, admit, attributed, msg1, promote, sent, unsent, dialed, moveto, own, msg2, restarted, heard, abandons, poll, retireds, retirings, closeLegs, removes, close, crowded, addPath, release, step}
 use Rattle.rules.specs.Output.{listBytes, installBytes, outputBytes, outputRecord, outputs, doneRecord}
 use Rattle.rules.specs.Entry.{Made, Refused, newTable, new, call}
@@ -40,7 +40,7 @@ from first = newTable (replicate 16 0) first default
 
 -- the calls one after another
 pub after : List Timed → Table → Step
-unfolding saturatingMul shorter shortest checkedAdd saturatingSince checkedShl insert default outOfRange backoff deadline younger uses inUse indexed opened hold setPath path once addresses retiring released releasing dialLeg answerLeg storedMsg2 answering resent overdue resends wake nextWake memory store silencing replayed young dampened judge gate clear prune promoted expired counting countedWith silenced ended _▸_ distinct places numbering entering dial ends abandon storedOn storedIn stored full arrived parted removed remove denied answer stamp admitted admit attributed msg1 promote sent unsent dialed moveto own msg2 restarted heard abandons poll retireds retirings closeLegs removes close crowded addPath release step
+unfolding saturatingMul shorter shortest checkedAdd saturatingSince checkedShl insert default outOfRange backoff deadline younger uses inUse indexed opened hold setPath path once addresses retiring released releasing dialLeg answerLeg storedMsg2 answering resent overdue resends wake nextWake memory store silencing replayed young dampened judge judged clear prune promoted expired counting countedWith silenced ended _▸_ distinct places numbering entering dial ends abandon storedOn storedIn stored full arrived parted removed remove denied answer stamp admitted admit attributed msg1 promote sent unsent dialed moveto own msg2 restarted heard abandons poll retireds retirings closeLegs removes close crowded addPath release step
 after [] t = still t
 after (x ∷ s) t = (step (x .now) (x .call) t) .step ▸ after s
 
@@ -162,10 +162,10 @@ retireRecord = (0x00 ∷ 0x11 ∷ 0x01 ∷ 0x08 ∷ []) ++ replicate 7 0x00 ++ (
 
 -- ---- for the refusals
 
--- the default with these two limits
-pub limits : ℕ → ℕ → Params
+-- the default with these three limits
+pub limits : ℕ → ℕ → ℕ → Params
 unfolding default
-limits replays counted = record {
+limits replays counted pending = record {
   unheard = default .unheard;
   interval = default .interval;
   replays = replays;
@@ -177,7 +177,7 @@ limits replays counted = record {
   handshake = default .handshake;
   resend = default .resend;
   resends = default .resends;
-  pending = default .pending;
+  pending = pending;
 }
 
 abbrev pub crowdPeer : ℕ → Bytes
@@ -204,6 +204,24 @@ silents (suc n) k = crowdMsg1 (suc n) ∷ on 0 (Call.Sent k) ∷ on 0 (Call.Remo
 
 abbrev pub pathTo : ℕ → Proven → Timed
 pathTo n v = on 0 (Call.Path 1 (record { transport = n; addr = [] }) v)
+
+-- ---- for Silent before Full
+
+-- what the last call writes, after those of the list, where one answer may wait
+pub saysPending1 : List Timed → Timed → List Output
+unfolding after newTable limits
+saysPending1 s x = (step (x .now) (x .call) ((after s (newTable (replicate 16 0) 1 (limits 8 8 1))) .table)) .step .outs
+
+-- the peer is silenced for 30 s at epoch 5, and an answer to another waits
+abbrev pub silentFull : List Timed
+silentFull = ending 0 1 ++ ending 0 2 ++ ending 0 3 ++ (crowdMsg1 1 ∷ [])
+
+-- then the peer is held by a dial, at this epoch
+abbrev pub dialedFull : ℕ → List Timed
+dialedFull e = silentFull ++ (dials 0 them 9 ∷ on 0 (Call.Msg2 5 e A) ∷ [])
+
+abbrev pub rejectedFull : Source → List Output
+rejectedFull s = Reject (some (them, s)) Full ∷ Free 4 ∷ []
 
 pub record Rows : Type 0 where
   -- Backoff of 1 ns, no cap in reach: exponent 31 gives 2,147,483,648; 32 gives 4,294,967,295.
@@ -236,6 +254,14 @@ pub record Rows : Type 0 where
   -- A horizon whose sum does not fit expires at the last reading, and not before.
   pub horizon-last-on : expired default (lastReading - 1) endedLast ≡ false
   pub horizon-last-over : expired default lastReading endedLast ≡ true
+  -- Silent before Full: a msg1 from a peer not held, and a replacement.
+  pub silent-full : saysPending1 silentFull (msg1s 29_999_999_999 5 4) ≡ rejected Source.NotHeld Silent 4
+  pub silent-full-replacement : saysPending1 (dialedFull 5) (on 0 (Call.Replacement (hello1 them B 5 4))) ≡ rejected Source.Replacement Silent 4
+  -- Full where silence does not hold (until = now; another epoch), and for a Restart and arrived.
+  pub full-over : saysPending1 silentFull (msg1s (seconds 30) 5 4) ≡ rejectedFull Source.NotHeld
+  pub full-epoch : saysPending1 silentFull (msg1s 0 6 4) ≡ rejectedFull Source.NotHeld
+  pub full-restart : saysPending1 (dialedFull 6) (msg1s 0 5 4) ≡ rejectedFull Source.Restart
+  pub full-arrived : saysPending1 silentFull (on 0 (Call.Arrived A (1 ∷ []))) ≡ Reject none Full ∷ []
   -- Retiring a leg without paths whose setup another leg shares closes nothing.
   pub shared-setup : says (dials 0 them 9 ∷ dials 0 (replicate 16 0x23) 10 ∷ []) (on 0 (Call.Abandon 1)) ≡ Free 9 ∷ Retire 1 [] ∷ []
   -- The worked tape: new; dial; abandon. Done; Opened 1, Done; Free 9, Retire 1 closing the pair, Done.
@@ -246,10 +272,10 @@ pub record Rows : Type 0 where
   pub tape-empty : writes-of [] ≡ []
   pub tape-refused : writes-of (dialRecord ++ dialRecord) ≡ done 3
   -- 1: counted 0 or above 8, or replays above 8
-  pub number-1 : new (spellNew 0 (replicate 16 0) 1 (some (limits 8 0))) ≡ Refused 1
-  pub number-1-counted : new (spellNew 0 (replicate 16 0) 1 (some (limits 8 9))) ≡ Refused 1
-  pub number-1-replays : new (spellNew 0 (replicate 16 0) 1 (some (limits 9 8))) ≡ Refused 1
-  pub number-none : new (spellNew 0 (replicate 16 0) 1 (some (limits 8 8))) ≡ Made (from 1)
+  pub number-1 : new (spellNew 0 (replicate 16 0) 1 (some (limits 8 0 1000))) ≡ Refused 1
+  pub number-1-counted : new (spellNew 0 (replicate 16 0) 1 (some (limits 8 9 1000))) ≡ Refused 1
+  pub number-1-replays : new (spellNew 0 (replicate 16 0) 1 (some (limits 9 8 1000))) ≡ Refused 1
+  pub number-none : new (spellNew 0 (replicate 16 0) 1 (some (limits 8 8 1000))) ≡ Made (from 1)
   -- 2 comes before 3: an output buffer under 10,240 bytes, for any record
   pub number-2 : (call [] 10_239 (from 1)) .number ≡ 2
   pub number-3 : (call [] 10_240 (from 1)) .number ≡ 3
@@ -276,7 +302,7 @@ pub record Rows : Type 0 where
   pub heard-clears-replays : says (holds 0 5 1 1 ++ heardThenRemoved 0 ++ holds 0 5 2 2) (msg1s (seconds 1) 6 1) ≡ passed 2
 
 pub rows : Rows
-unfolding outs says silences numbers writes-of limits
+unfolding outs says saysPending1 silences numbers writes-of limits
 rows = record {
   backoff-31 = refl;
   backoff-32 = refl;
@@ -296,6 +322,12 @@ rows = record {
   silence-last-over = refl;
   horizon-last-on = refl;
   horizon-last-over = refl;
+  silent-full = refl;
+  silent-full-replacement = refl;
+  full-over = refl;
+  full-epoch = refl;
+  full-restart = refl;
+  full-arrived = refl;
   shared-setup = refl;
   tape = refl;
   tape-second-new = refl;

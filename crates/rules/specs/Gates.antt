@@ -8,7 +8,7 @@ use lib.ListN.{length}
 use Rattle.rules.specs.Base.{if_then_else_, option, is, orElse, Bytes, same, empty, find, without, any, keep}
 use Rattle.rules.specs.Std.{fromNanos, saturatingAdd, before, insert}
 use Rattle.rules.specs.Time.{Params, deadline, backoff, younger}
-use Rattle.rules.specs.Data.{Memory, Replay, Silence, Held, Source, Refusal, Unheard, Dampened, Replayed, ReplayFull, Silent}
+use Rattle.rules.specs.Data.{Memory, Replay, Silence, Held, Source, Refusal, Unheard, Dampened, Replayed, ReplayFull}
 
 -- ---- memories
 
@@ -44,12 +44,6 @@ differ (some a) none = false
 differ (some a) (some b) = not (eqb a b)
 
 -- ---- the judgement
-
-pub record Ask : Type 0 where
-  pub source : Source
-  pub held : Option Held
-  pub ephemeral : Option Bytes
-  pub epoch : Option ℕ
 
 -- Silent while until > now and epochs don't differ
 unfoldable pub silencing : Option ℕ → ℕ → Memory → Bool
@@ -91,6 +85,10 @@ asksSilence Source.Replacement = true
 asksSilence Source.OwnMsg2 = false
 asksSilence Source.RekeyMsg2 = false
 
+-- the silences refuse what asks
+abbrev pub silencedFor : ℕ → Source → Option ℕ → Memory → Bool
+silencedFor now s epoch m = asksSilence s && silencing epoch now m
+
 -- OwnMsg2 and RekeyMsg2 always pass, and so does a peer not held that is not silenced
 abbrev pub gated : Source → Bool
 gated Source.NotHeld = false
@@ -99,10 +97,9 @@ gated Source.Replacement = true
 gated Source.OwnMsg2 = false
 gated Source.RekeyMsg2 = false
 
-unfoldable pub gate : Params → ℕ → Ask → Memory → Option Refusal
-gate c now a m =
-    if asksSilence (a .source) && silencing (a .epoch) now m then some Silent
-    else option (a .held) none λ h. if gated (a .source) then judge c now (a .ephemeral) h m else none
+-- the other judgements, of the holder that would go
+unfoldable pub judged : Params → ℕ → Source → Option Held → Bytes → Memory → Option Refusal
+judged c now s o e m = option o none λ h. if gated s then judge c now (some e) h m else none
 
 -- ---- what changes a memory
 

@@ -8,10 +8,10 @@ use lib.ListN.{length}
 use Rattle.rules.specs.Base.{if_then_else_, option, is, orElse, Bytes, same, empty, find, without, alter, any}
 use Rattle.rules.specs.Std.{before, insert}
 use Rattle.rules.specs.Data.{Pair, samePair, Dir, Inbound, Outbound, APeer, Proven, LinkRec, Answered, Leg, Held, Memory, Table, Hello, Call, Source, Why, Denial, Full, Gate, Fresh, FromCarry, Transition, Installed, Output, Step, Result}
-use Rattle.rules.specs.Data.{Opened, Rekey, Install, Reset, Retire, Free, Retry, Reject, Promote, Replace, Move, Keep, Roam}
+use Rattle.rules.specs.Data.{Opened, Rekey, Install, Reset, Retire, Free, Retry, Reject, Silent, Promote, Replace, Move, Keep, Roam}
 use Rattle.rules.specs.Links.{numbered, provenAt, pathAt, indexed, opened, hold, path, retired, retiring, released, releasing}
 use Rattle.rules.specs.Legs.{onLink, answered, dialing, dialLeg, answerLeg, storedMsg2, answering, resent, markSent, markUnsent, overdue, resends, nextWake}
-use Rattle.rules.specs.Gates.{memory, store, Ask, gate, stamped, clear, promoted, ended}
+use Rattle.rules.specs.Gates.{memory, store, silencedFor, judged, stamped, clear, promoted, ended}
 
 -- ---- a table with one part changed
 
@@ -201,12 +201,13 @@ remove now p why t = option (heldAt p t) (still t) λ h. removed now p why h t
 
 -- ---- 4 msg1, 5 replacement
 
--- Full, else what the gate says
+-- Silent, then Full, then the other judgements
 unfoldable pub denied : ℕ → Source → Hello → Table → Option Denial
 denied now s x t =
-    let ask : Ask = record { source = s; held = heldAt (x .peer) t; ephemeral = some (x .ephemeral); epoch = some (x .epoch) } in
-    if full t then some Full
-    else option (gate (t .params) now ask (memory (x .peer) (t .gates))) none λ r. some (Gate r)
+    let m : Memory = memory (x .peer) (t .gates) in
+    if silencedFor now s (some (x .epoch)) m then some (Gate Silent)
+    else (if full t then some Full
+    else option (judged (t .params) now s (heldAt (x .peer) t) (x .ephemeral) m) none λ r. some (Gate r))
 
 -- a peer not held is judged, and rejected, as NotHeld
 abbrev pub asked : Source → Option Held → Source

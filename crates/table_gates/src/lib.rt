@@ -18,8 +18,9 @@ ghost use Rattle.rules.specs.Settle.{withGates};
 ghost use Rattle.lib_laws.specs.Scan.{scan};
 ghost use Rattle.node_addr.specs.View.{Finds};
 ghost use Rattle.params.specs.View.{viewParams};
-ghost use Rattle.gates_types.specs.View.{optional, FitParams, Within, refusedBy, asking};
+ghost use Rattle.gates_types.specs.View.{optional, FitParams, Within, sourceOf, refusedBy, viewLiveness};
 ghost use Rattle.gates.specs.Order.{Room};
+ghost use Rattle.gates.specs.Place.{memoryIn, PlaceIn};
 ghost use Rattle.table_layout.specs.View.{viewTable, FitTable, Told};
 
 // How many peers are remembered.
@@ -38,30 +39,30 @@ pub fn find_memory(t: &[u8], peer: NodeAddr) -> Found
     gates::map::find_memory(&t[GATES..GATES_END], peer)
 }
 
-// The judgement of what asks.
-pub fn gate(
+// Whether the silences at a place refuse what asks.
+pub fn silenced_for(t: &[u8], place: Found, source: Source, epoch: u64, clock: u64) -> bool
+    requires { ⌜ FitTable (now t) ⌝ }
+    requires { ⌜ PlaceIn place (viewTable (now t) .gates) ⌝ }
+    ensures { λ r. ⌜ r ≡ rule.silencedFor clock (sourceOf source) (some epoch) (memoryIn place (viewTable (now (t .entry)) .gates)) ⌝ }
+{
+    gates::calls::silenced_for(&t[GATES..GATES_END], place, source, epoch, clock)
+}
+
+// The other judgements of what asks, by the memory at a place.
+pub fn judged(
     t: &[u8],
-    peer: NodeAddr,
+    place: Found,
     source: Source,
     l: Liveness,
     digest: Digest,
-    epoch: u64,
     clock: u64,
     c: Params,
 ) -> Verdict
     requires { ⌜ FitTable (now t) ⌝ }
-    ensures { λ r. ⌜ refusedBy r ≡ rule.gate (viewParams c) clock (asking source l digest epoch) (rule.memory (peer .0) (viewTable (now (t .entry)) .gates)) ⌝ }
+    requires { ⌜ PlaceIn place (viewTable (now t) .gates) ⌝ }
+    ensures { λ r. ⌜ refusedBy r ≡ rule.judged (viewParams c) clock (sourceOf source) (viewLiveness l) (digest .0) (memoryIn place (viewTable (now (t .entry)) .gates)) ⌝ }
 {
-    gates::calls::gate(
-        &t[GATES..GATES_END],
-        peer,
-        source,
-        l,
-        digest,
-        epoch,
-        clock,
-        c,
-    )
+    gates::calls::judged(&t[GATES..GATES_END], place, source, l, digest, clock, c)
 }
 
 // A msg1 with a digest promoted the peer unheard.

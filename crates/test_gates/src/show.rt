@@ -1,5 +1,6 @@
 // What the region shows, and its judgements.
-use gates::calls::gate;
+use gates::calls::judged;
+use gates::calls::silenced_for;
 use gates::map::find_memory;
 use gates::map::memory_count;
 use gates::map::memory_of;
@@ -94,12 +95,23 @@ pub fn live(holder: u64, installed: u64, last: u64) -> Liveness {
     }
 }
 
+// Silent, else what the other judgements say.
+fn gate(s: &[u8], t: Step, l: Liveness) -> Verdict
+    requires { ⌜ FitGates (now s) ⌝ }
+{
+    let place = find_memory(s, node(t.a));
+    if silenced_for(s, place, source(t.b), t.d, t.e) {
+        return Verdict::Refuse(Refusal::Silent);
+    }
+    let c = settings();
+    judged(s, place, source(t.b), l, digest(t.c), t.e, c)
+}
+
 pub fn ask(s: &[u8], t: Step, l: Liveness)
     requires { ⌜ FitGates (now s) ⌝ }
 {
     if t.word == b'a' {
-        let c = settings();
-        verdict(gate(s, node(t.a), source(t.b), l, digest(t.c), t.d, t.e, c));
+        verdict(gate(s, t, l));
     }
 }
 

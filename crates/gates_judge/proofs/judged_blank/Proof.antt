@@ -5,31 +5,31 @@ use borrow.Author.Tests.{le-leb, lt-leb, not-true, not-false}
 use native.Mathlib.Omega.{arith}
 use Rattle.params.specs.View.{viewParams}
 use Rattle.gates_types.specs.View.{sourceOf, viewLiveness}
-use Rattle.gates_judge.specs.Tests.{blank-gate}
-use Rattle.gates_judge.proofs.gate_blank.Statement.{statement}
-use Rattle.gates_judge.proofs.gate_blank.Tie as tie
+use Rattle.gates_judge.specs.Tests.{blank-judged}
+use Rattle.gates_judge.proofs.judged_blank.Statement.{statement}
+use Rattle.gates_judge.proofs.judged_blank.Tie as tie
 
 returns : tie.Need-returns
-returns c = λ p d e.
+returns c = λ p d.
     let a = c .before .before .args in
-    sym (blank-gate (viewParams (a .c)) (a .clock) (sourceOf (a .source)) (viewLiveness (a .l)) (d .0) e p ∙ rw (not-true (a .l .held) (c .if1 .taken)))
+    sym (blank-judged (viewParams (a .c)) (a .clock) (sourceOf (a .source)) (viewLiveness (a .l)) d p ∙ rw (not-true (a .l .held) (c .if1 .taken)))
 
 returns-2 : tie.Need-returns-2
-returns-2 c = λ p d e.
+returns-2 c = λ p d.
     let g = c .before in
     let a = g .before .before .before .args in
     sym (
-    blank-gate (viewParams (a .c)) (a .clock) (sourceOf (a .source)) (viewLiveness (a .l)) (d .0) e p
+    blank-judged (viewParams (a .c)) (a .clock) (sourceOf (a .source)) (viewLiveness (a .l)) d p
     ∙ rw (not-false (a .l .held) (g .before .if1 .left), sym (g .gated .ensures) ∙ not-true (g .gated .result) (c .if2 .taken))
     )
 
 returns-3 : tie.Need-returns-3
-returns-3 c = λ p d e.
+returns-3 c = λ p d.
     let n = c .before .before in
     let g = n .before .before .before in
     let a = g .before .before .before .args in
     sym (
-    blank-gate (viewParams (a .c)) (a .clock) (sourceOf (a .source)) (viewLiveness (a .l)) (d .0) e p
+    blank-judged (viewParams (a .c)) (a .clock) (sourceOf (a .source)) (viewLiveness (a .l)) d p
     ∙ rw (
       not-false (a .l .held) (g .before .if1 .left),
       sym (g .gated .ensures) ∙ not-false (g .gated .result) (n .before .before .if2 .left),
@@ -39,11 +39,11 @@ returns-3 c = λ p d e.
     )
 
 returns-4 : tie.Need-returns-4
-returns-4 c = λ p d e.
+returns-4 c = λ p d.
     let n = c .before in
     let g = n .before .before .before in
     let a = g .before .before .before .args in
-    let r = blank-gate (viewParams (a .c)) (a .clock) (sourceOf (a .source)) (viewLiveness (a .l)) (d .0) e p in
+    let r = blank-judged (viewParams (a .c)) (a .clock) (sourceOf (a .source)) (viewLiveness (a .l)) d p in
     let x = not-false (a .l .held) (g .before .if1 .left) in
     let y = sym (g .gated .ensures) ∙ not-false (g .gated .result) (n .before .before .if2 .left) in
     ⊎-elim
@@ -51,5 +51,5 @@ returns-4 c = λ p d e.
     (λ w. c .young .ensures ∙ sym (r ∙ rw (x, y, not-false (a .l .heard) (w .left))))
     (n .if3 .came)
 
-pub gate-blank-spec : {M : Type 1} → statement M
-gate-blank-spec = tie.close (tie.spec returns (λ c κs. search needs) returns-2 returns-3 (λ c κs. search needs) returns-4)
+pub judged-blank-spec : {M : Type 1} → statement M
+judged-blank-spec = tie.close (tie.spec returns (λ c κs. search needs) returns-2 returns-3 (λ c κs. search needs) returns-4)
