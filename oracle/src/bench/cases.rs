@@ -1,7 +1,7 @@
 //! What is measured: a table to begin with, and a run of calls that leaves
 //! it as it was, but for link numbers, leases, digests and the clock.
 
-use super::world::{SECOND, World, pair};
+use super::world::{Limits, SECOND, World, pair};
 
 pub struct Case {
     /// In one word, for --count.
@@ -20,7 +20,7 @@ const STRANGER: usize = 200;
 
 /// So many held links with four paths each.
 fn held(links: usize) -> World {
-    let mut w = World::new(false);
+    let mut w = World::new(None);
     w.hold_all(links);
     w
 }
@@ -32,15 +32,23 @@ fn below(links: usize) -> World {
 
 /// One of the links has no path: its peer comes and goes. It is number 0.
 fn bare(links: usize) -> World {
-    let mut w = World::new(false);
+    let mut w = World::new(None);
     w.hold();
     w.hold_all(links - 1);
     w
 }
 
+/// Beside the held links the one answer waits that may.
+fn full(links: usize) -> World {
+    let mut w = World::new(Some(Limits { resends: 5, pending: 1 }));
+    w.hold_all(links.min(31));
+    w.answered(STRANGER);
+    w
+}
+
 /// One of the links is a leg of a stranger, link 1: a dial, or an answer.
 fn leg(links: usize, dial: bool, endless: bool) -> World {
-    let mut w = World::new(endless);
+    let mut w = World::new(endless.then_some(Limits { resends: u32::MAX, pending: 1000 }));
     if dial {
         w.dial(STRANGER);
     } else {
@@ -58,7 +66,7 @@ fn due(links: usize) -> World {
 
 /// Every link is a dial in flight.
 fn legs(links: usize) -> World {
-    let mut w = World::new(false);
+    let mut w = World::new(None);
     for i in 0..links {
         w.dial(STRANGER + i);
     }
@@ -88,6 +96,10 @@ fn restart(w: &mut World) {
 fn replaced(w: &mut World) {
     let no = w.some();
     w.replacement(no, &pair(no, 0), 1);
+}
+
+fn unknown(w: &mut World) {
+    w.msg1(STRANGER + 1, &pair(STRANGER + 1, 0), 1);
 }
 
 fn installed(w: &mut World) {
@@ -135,6 +147,9 @@ pub const CASES: &[Case] = &[
     case("reject", "msg1: Reject", &[&[13, 11]], held, restart),
     case("answer", "msg1: fresh answer, abandon", &[&[2], &[11, 8]], below, answered),
     case("replacement", "replacement: Reject", &[&[13, 11]], held, replaced),
+    case("full", "msg1: Reject for Full", &[&[13, 11]], full, unknown),
+    case("full-restart", "msg1 (Restart): Reject for Full", &[&[13, 11]], full, restart),
+    case("full-replacement", "replacement: Reject for Full", &[&[13, 11]], full, replaced),
     case("sent", "sent on a dial", &[&[]], |n| leg(n, true, true), |w| w.sent(1)),
     case("unsent", "unsent on an answer", &[&[]], |n| leg(n, false, false), |w| w.unsent(1)),
     case("msg2", "dial, msg2, remove", &[&[1], &[5, 6], CLOSED], below, installed),

@@ -54,15 +54,15 @@ pub struct World {
 }
 
 impl World {
-    /// Begins with the record of new, with the default settings or with
-    /// resends without end.
-    pub fn new(endless: bool) -> World {
+    /// Begins with the record of new, with the default settings or with other
+    /// limits.
+    pub fn new(limits: Option<Limits>) -> World {
         let (known, r, batch) = (Vec::new(), Random::new(1), Batch::default());
         let mut w = World { known, r, now: SECOND, turn: 0, next: FIRST, made: 0, batch };
         w.put(NEW, |f| {
-            f.run(&[0x80; 16]).u64(FIRST).flag(endless);
-            if endless {
-                settings(f);
+            f.run(&[0x80; 16]).u64(FIRST).flag(limits.is_some());
+            if let Some(limits) = limits {
+                settings(f, limits);
             }
         });
         w
@@ -265,12 +265,18 @@ impl World {
     }
 }
 
-/// The default ones, but 2^32 - 1 resends.
-fn settings(f: &mut Writer) {
+/// Settings that are not the default ones.
+#[derive(Clone, Copy)]
+pub struct Limits {
+    pub resends: u32,
+    pub pending: u64,
+}
+
+fn settings(f: &mut Writer, limits: Limits) {
     for seconds in [1, 15, 30, 600, 600, 30, 1] {
         f.u64(seconds * SECOND);
     }
-    f.u32(3).u32(u32::MAX).byte(8).byte(8).u64(1000);
+    f.u32(3).u32(limits.resends).byte(8).byte(8).u64(limits.pending);
 }
 
 fn hello(f: &mut Writer, no: usize, from: &Pair, epoch: u64, lease: u32) {
