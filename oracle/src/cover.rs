@@ -2,12 +2,12 @@
 
 use std::collections::BTreeMap;
 
+use crate::departure::{self, ALL, Departure, Met};
 use crate::dump;
 use crate::generate;
 use crate::profile::NAMES;
 use crate::proto::settle::output::{Build, Output};
 use crate::tape::{self, Step, Tape};
-use crate::time;
 use crate::write::{denial_code, source_code, transition_code, why_code};
 
 const CALLS: [&str; 18] = [
@@ -69,6 +69,7 @@ impl Counts {
         all.extend(rows("reject NotHeld", &["Full", "Silent"]));
         all.extend(rows("reject Restart", &DENIALS[..6]));
         all.extend(rows("reject Replacement", &DENIALS));
+        all.extend(rows("SilentFirst", &["msg1 NotHeld", "replacement NotHeld", "replacement Replacement"]));
         all.extend(rows("build", &["Fresh", "FromCarry"]));
         all.extend(rows("wake", &["0", "1"]));
         for row in all {
@@ -88,23 +89,25 @@ impl Counts {
         for s in &steps {
             self.step(s);
         }
-        if steps.iter().any(|s| s.past > 0) {
-            self.past(bytes);
+        self.add("plain tapes".into(), steps.iter().all(|s| s.met == Met::default()).into());
+        for d in ALL {
+            if steps.iter().any(|s| s.met.of(d) > 0) {
+                self.beside(d, bytes);
+            }
         }
         self.end(&tape);
     }
 
-    /// A tape with a sum past the last reading: whether the unchanged
-    /// reference writes otherwise, and whether it leaves other tables.
-    fn past(&mut self, bytes: &[u8]) {
-        self.add("past tapes".into(), 1);
+    /// A tape in which a departure decides: whether the reference without it
+    /// writes otherwise, and whether it leaves other tables.
+    fn beside(&mut self, d: Departure, bytes: &[u8]) {
+        self.add(format!("{d:?} tapes"), 1);
         let dumps = || tape::tables(bytes, dump::dump);
-        for (row, other) in [
-            ("outputs", tape::run(bytes) != time::unchanged(|| tape::run(bytes))),
-            ("tables", dumps() != time::unchanged(dumps)),
-        ] {
-            self.add(format!("past tapes, other {row}"), other.into());
-        }
+        let outputs = tape::run(bytes) != departure::without(&[d], || tape::run(bytes));
+        let tables = dumps() != departure::without(&[d], dumps);
+        assert!(d != Departure::SilentFirst || !tables, "neither Full nor Silent alters the table");
+        self.add(format!("{d:?} tapes, other outputs"), outputs.into());
+        self.add(format!("{d:?} tapes, other tables"), tables.into());
     }
 
     fn step(&mut self, s: &Step) {
@@ -116,10 +119,15 @@ impl Counts {
                 if outputs.is_empty() {
                     self.add(format!("silent {name}"), 1);
                 }
-                if s.past > 0 {
-                    self.add(format!("past sums {name}"), s.past);
+                let (silent, past) = (s.met.of(Departure::SilentFirst), s.met.of(Departure::LastReading));
+                if past > 0 {
+                    self.add(format!("LastReading {name}"), past);
                 }
                 for o in outputs {
+                    if let (Output::Reject { source: Some(by), .. }, true) = (o, silent > 0) {
+                        let by = SOURCES[usize::from(source_code(*by))];
+                        self.add(format!("SilentFirst {name} {by}"), 1);
+                    }
                     self.output(o);
                 }
             }

@@ -117,6 +117,7 @@ impl Generator {
         let pending = match kind {
             Settings::Long => self.r.pick(&[1000, 1000, 1000, 40, 31, 16]).unwrap_or(0),
             Settings::Silences => 1000,
+            Settings::Crowded => 1 + self.r.below(4),
             Settings::Extreme => self.r.pick(&[0, 1, 2, 3, u64::MAX]).unwrap_or(0),
             Settings::Gates => self.r.pick(&[2, 5, 1000, 1000]).unwrap_or(0),
             _ => self.r.pick(&[0, 1, 2, 3, 3, 1000, 1000, u64::MAX]).unwrap_or(0),
@@ -143,6 +144,9 @@ impl Generator {
             Settings::Silences if i == 2 => 1 + self.r.below(3),
             Settings::Silences if i == 3 => self.r.pick(&[5, 1 << 33, 1 << 40, u64::MAX]).unwrap_or(0),
             Settings::Silences => 1 << 50,
+            Settings::Crowded if i == 2 => 100 + self.r.below(1000),
+            Settings::Crowded if i == 3 => 1 << 20,
+            Settings::Crowded if i == 5 => 1 << 12,
             Settings::Gates if i == 2 => 2 + self.r.below(30),
             Settings::Gates if i == 3 => self.r.below(200),
             Settings::Gates if i == 4 => self.r.below(80),
@@ -186,6 +190,7 @@ impl Generator {
             if let Some(node) = &self.tape.node {
                 self.plan = match self.profile.settings {
                     Settings::Silences => plan::long_silence(&mut self.r),
+                    Settings::Crowded => plan::crowd(node.table.params(), &mut self.r),
                     _ => plan::draw(node.table.params(), &mut self.r),
                 }
                 .into();
@@ -229,6 +234,22 @@ impl Generator {
                 w.link(self.last_link()).run(&epoch).pair(&from);
                 8
             }
+            Item::OwnMsg2 { next } => {
+                let from = self.pair();
+                w.link(self.last_link()).u64(self.epoch_planned + u64::from(next)).pair(&from);
+                8
+            }
+            Item::Other => {
+                let other = peer_no(OTHERS + u64::from(self.made % 8));
+                self.planned_hello(&mut w, other, self.epoch_planned, true);
+                w.flag(self.r.chance(50));
+                4
+            }
+            Item::Former => {
+                self.planned_hello(&mut w, about, self.epoch_planned, true);
+                w.flag(self.r.chance(50));
+                4
+            }
             Item::Poll => 12,
             Item::Wake => 16,
             Item::Heard => {
@@ -241,7 +262,9 @@ impl Generator {
                 11
             }
             Item::Hello { replacement, restart, fresh } => {
-                self.planned_hello(&mut w, restart, fresh);
+                let held = self.node().and_then(|n| Some(n.table.held(&about)?.epoch));
+                let epoch = held.map_or(self.epoch_planned, u64::from_be_bytes);
+                self.planned_hello(&mut w, about, epoch.wrapping_add(restart.into()), fresh);
                 if !replacement {
                     w.flag(self.r.chance(50));
                 }
@@ -283,17 +306,14 @@ impl Generator {
     }
 
     /// A msg1 that no stored answer swallows: it comes from a pair of its own.
-    fn planned_hello(&mut self, w: &mut Writer, restart: bool, fresh: bool) {
+    fn planned_hello(&mut self, w: &mut Writer, peer: NodeAddr, epoch: u64, fresh: bool) {
         self.made = self.made.wrapping_add(1);
         let mut digest = self.digest();
         if fresh {
             digest[30] = self.made;
         }
-        let held = self.node().and_then(|n| Some(n.table.held(&self.about)?.epoch));
-        let epoch = held.map_or(self.epoch_planned, u64::from_be_bytes);
-        let epoch = epoch.wrapping_add(restart.into());
         let from = Pair { transport: TransportId(9), addr: TransportAddr(vec![self.made]) };
-        w.peer(self.about).pair(&from);
+        w.peer(peer).pair(&from);
         self.message(w);
         w.run(&digest).u64(epoch);
         self.message(w);
@@ -591,6 +611,9 @@ impl Generator {
         if self.r.chance(25) { at.saturating_sub(1) } else { at }
     }
 }
+
+/// The first of the names that are only another's.
+const OTHERS: u64 = 100;
 
 fn peer_no(n: u64) -> NodeAddr {
     let mut name = [0x20; 16];

@@ -2,9 +2,11 @@
 
 use std::collections::BTreeSet;
 
+use crate::departure::Departure;
 use crate::identity::NodeAddr;
+use crate::proto::settle::gates::{Epoch, Refusal, Source};
 use crate::proto::settle::links::{LinkNo, Pair};
-use crate::proto::settle::output::Output;
+use crate::proto::settle::output::{Denial, Output};
 use crate::proto::settle::params::Params;
 use crate::proto::settle::table::Table;
 use crate::record::{self, Call, Record};
@@ -64,8 +66,12 @@ impl Node {
             path_room(&self.table, *link, pair)?;
         }
         let ends = matches!(call, Call::Close | Call::Release(..));
+        let epoch = hello_epoch(&call);
         let mut next = self.table.copy();
-        let outputs = next.call(call, now);
+        let mut outputs = next.call(call, now);
+        if let Some(epoch) = epoch {
+            self.silent_first(epoch, now, &mut outputs);
+        }
         if !dial && let Some(peer) = asks && self.enters(peer, &outputs) {
             self.room(peer)?;
         }
@@ -109,6 +115,21 @@ impl Node {
         Ok(())
     }
 
+    /// A Reject whose reason is Full is read as Silent where its source asks
+    /// for silence and the reference's own `silencing` holds.
+    fn silent_first(&self, epoch: Epoch, now: Clock, outputs: &mut [Output]) {
+        for o in outputs {
+            if let Output::Reject { peer: Some(peer), source: Some(source), why } = o
+                && *why == Denial::Full
+                && matches!(source, Source::NotHeld | Source::Replacement)
+                && self.table.gates().silences(peer, epoch, now)
+                && Departure::SilentFirst.taken()
+            {
+                *why = Denial::Gate(Refusal::Silent);
+            }
+        }
+    }
+
     /// The peers that are held, have a leg, or are remembered.
     pub fn places(&self) -> BTreeSet<NodeAddr> {
         let held = self.table.holders().keys().copied();
@@ -122,6 +143,14 @@ impl Node {
     pub fn sound(&self) -> bool {
         let links = self.table.links();
         *links.index() == links.derived() && self.table.replies() == self.table.legs().answering()
+    }
+}
+
+/// The epoch of a msg1 or replacement.
+fn hello_epoch(call: &Call) -> Option<Epoch> {
+    match call {
+        Call::Msg1(h, _) | Call::Replacement(h) => Some(h.epoch),
+        _ => None,
     }
 }
 

@@ -23,6 +23,12 @@ pub enum Item {
     Dial,
     /// The last dial's msg2, mostly at the epoch on record.
     Msg2,
+    /// The same at the epoch that was planned, or at the next.
+    OwnMsg2 { next: bool },
+    /// A msg1 at the epoch that was planned, whatever the holder's.
+    Former,
+    /// A msg1 of a peer that no other item is about.
+    Other,
     Poll,
     Wake,
     Heard,
@@ -42,6 +48,34 @@ pub fn long_silence(r: &mut Random) -> Vec<Item> {
     for _ in 0..16 {
         items.extend([Item::Until, new_peer(r, 100), Item::Sent, Item::Remove]);
     }
+    items
+}
+
+/// Holders end unheard until msg1s are refused, answers to others wait up to
+/// the limit, and the peer asks: not held, held by its own dial, and at the end
+/// of its refusal. Then the answers are reaped.
+pub fn crowd(p: &Params, r: &mut Random) -> Vec<Item> {
+    let mut items = Vec::new();
+    for _ in 0..u64::from(p.silent.max(1)) + r.below(2) {
+        items.extend([Item::Over, new_peer(r, 100), Item::Sent, Item::Remove]);
+    }
+    items.extend(vec![Item::Other; p.pending.min(8) + r.index(2) - r.index(2)]);
+    items.extend([new_peer(r, 60), hello(r, true), new_peer(r, 60)]);
+    if r.chance(50) {
+        items.extend([Item::Until, new_peer(r, 60)]);
+    }
+    let next = r.chance(40);
+    items.extend([Item::Dial, Item::OwnMsg2 { next }]);
+    if next {
+        items.push(Item::Former);
+    }
+    for _ in 0..2 + r.below(3) {
+        items.push(Item::Hello { replacement: r.chance(75), restart: r.chance(20), fresh: r.chance(60) });
+    }
+    if r.chance(50) {
+        items.extend([Item::Until, Item::Hello { replacement: true, restart: false, fresh: r.chance(60) }]);
+    }
+    items.extend([Item::Remove, Item::Wait(nanos(p.handshake)), Item::Poll]);
     items
 }
 

@@ -3,8 +3,8 @@
 
 use crate::random::Random;
 
-pub const NAMES: [&str; 9] =
-    ["few", "full", "gates", "silences", "extreme", "last", "damaged", "mixed", "soak"];
+pub const NAMES: [&str; 10] =
+    ["few", "full", "gates", "silences", "extreme", "last", "damaged", "mixed", "soak", "crowded"];
 
 #[derive(Clone, Copy, PartialEq, Eq)]
 pub enum Settings {
@@ -19,6 +19,8 @@ pub enum Settings {
     Long,
     /// Refusals that start at a nanosecond or two and are never forgotten.
     Silences,
+    /// Refusals that last, and room for few answers, which wait long.
+    Crowded,
 }
 
 #[derive(Clone, Copy, PartialEq, Eq)]
@@ -105,6 +107,16 @@ pub fn named(name: &str, r: &mut Random) -> Option<Profile> {
         "damaged" => Profile { damage: 4 + r.below(40), settings: either(r), ..even },
         "mixed" => mixed(r, even)?,
         "soak" => soak(r, even),
+        "crowded" => Profile {
+            digests: 30,
+            epochs: 2,
+            same: 30,
+            plan: 40,
+            messages: 30,
+            settings: Settings::Crowded,
+            weights: GATES,
+            ..even
+        },
         _ => return None,
     })
 }

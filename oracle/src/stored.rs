@@ -7,8 +7,8 @@ use crate::profile::NAMES;
 use crate::tape;
 
 /// 30 tapes of 30 calls from each profile, and longer ones where 30 calls do
-/// not reach: the limits of a full table, silences of a held peer, and
-/// silences whose factor no longer fits.
+/// not reach: the limits of a full table, silences of a held peer, silences
+/// whose factor no longer fits, and silences while Full holds.
 pub fn set() -> Option<Vec<u8>> {
     let mut out = Vec::new();
     for name in NAMES {
@@ -22,8 +22,10 @@ pub fn set() -> Option<Vec<u8>> {
     for seed in 30..50 {
         add(&mut out, &generate::tape("gates", seed, None)?);
     }
-    for seed in 0..6 {
-        add(&mut out, &generate::tape("silences", seed, None)?);
+    for name in ["silences", "crowded"] {
+        for seed in 0..6 {
+            add(&mut out, &generate::tape(name, seed, None)?);
+        }
     }
     Some(out)
 }

@@ -1,11 +1,11 @@
 //! The program settle-tape, fed with bytes as they come.
 //!
-//! `run` and `tables` also run each tape with the clock unchanged: where every
-//! sum of the tape fits, the reference says the same.
+//! `run` and `tables` also run each tape without the departures of document 02:
+//! where none decides, the reference says the same by itself.
 
+use crate::departure::{self, ALL, Met};
 use crate::node::{Node, RECORD};
 use crate::proto::settle::output::Output;
-use crate::time;
 use crate::write;
 
 /// What a record came to: its kind byte if it has one, and the outputs or
@@ -13,8 +13,8 @@ use crate::write;
 pub struct Step {
     pub kind: Option<u8>,
     pub result: Result<Vec<Output>, u8>,
-    /// Of a call not refused, how many sums lie past the last reading.
-    pub past: u64,
+    /// Of a call not refused, how often each departure decided.
+    pub met: Met,
 }
 
 #[derive(Default)]
@@ -46,7 +46,7 @@ impl Tape {
             return None;
         }
         self.ended = true;
-        Some(Step { kind: None, result: Err(RECORD), past: 0 })
+        Some(Step { kind: None, result: Err(RECORD), met: Met::default() })
     }
 
     /// Whether the program has ended, or reads a record that is not whole.
@@ -67,9 +67,9 @@ impl Tape {
     }
 
     fn step(&mut self, body: &[u8]) -> Step {
-        let (result, past) = time::counted(|| self.settle(body));
-        let past = if result.is_ok() { past } else { 0 };
-        Step { kind: body.get(1).copied(), result, past }
+        let (result, met) = departure::counted(|| self.settle(body));
+        let met = if result.is_ok() { met } else { Met::default() };
+        Step { kind: body.get(1).copied(), result, met }
     }
 
     fn settle(&mut self, body: &[u8]) -> Result<Vec<Output>, u8> {
@@ -105,9 +105,9 @@ pub fn run(bytes: &[u8]) -> Vec<u8> {
 /// What `told` makes of a tape.
 fn settled(bytes: &[u8], told: impl Fn(&[u8]) -> Vec<u8>) -> Vec<u8> {
     let out = told(bytes);
-    let fits = steps(bytes).1.iter().all(|s| s.past == 0);
-    let same = !fits || out == time::unchanged(|| told(bytes));
-    assert!(same, "where every sum fits, the clocks agree");
+    let plain = steps(bytes).1.iter().all(|s| s.met == Met::default());
+    let same = !plain || out == departure::without(&ALL, || told(bytes));
+    assert!(same, "where no departure decides, the reference agrees");
     out
 }
 

@@ -1,8 +1,9 @@
 //! The clock: nanoseconds in a u64. A sum past 2^64 - 1 gives the last
 //! reading (document 02, paper 9), under which the reference's `deadline`
-//! never halves its step. `unchanged` has such a sum fail, as document 01 does.
+//! never halves its step; where that departure is left out it fails, as in
+//! document 01.
 
-use std::sync::atomic::{AtomicBool, AtomicU64, Ordering::Relaxed};
+use crate::departure::Departure;
 
 pub use core::time::Duration;
 
@@ -25,27 +26,8 @@ impl Instant for Clock {
     }
 }
 
-static UNCHANGED: AtomicBool = AtomicBool::new(false);
-static PAST: AtomicU64 = AtomicU64::new(0);
-
 /// A sum past the last reading.
 #[cold]
 fn past() -> Option<u64> {
-    PAST.fetch_add(1, Relaxed);
-    (!UNCHANGED.load(Relaxed)).then_some(u64::MAX)
-}
-
-/// What `told` gives where a sum past the last reading fails.
-pub fn unchanged<T>(told: impl FnOnce() -> T) -> T {
-    let before = UNCHANGED.swap(true, Relaxed);
-    let out = told();
-    UNCHANGED.store(before, Relaxed);
-    out
-}
-
-/// What `told` gives, and how many of its sums lie past the last reading.
-pub fn counted<T>(told: impl FnOnce() -> T) -> (T, u64) {
-    let before = PAST.load(Relaxed);
-    let out = told();
-    (out, PAST.load(Relaxed) - before)
+    Departure::LastReading.taken().then_some(u64::MAX)
 }

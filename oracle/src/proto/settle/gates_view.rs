@@ -1,4 +1,4 @@
-//! What the oracle reads of the gates' memories, and a stamp by itself.
+//! What the oracle reads and asks of the gates' memories, and a stamp by itself.
 
 use super::*;
 
@@ -21,6 +21,11 @@ impl<I: Instant> Gates<I> {
     /// A restart or replacement of a heard peering was accepted.
     pub fn give_up(&mut self, peer: NodeAddr, now: I) {
         self.peers.entry(peer).or_default().stamp = Some(now);
+    }
+
+    /// Whether the silences of the peer's memory refuse a msg1 at the epoch.
+    pub fn silences(&self, peer: &NodeAddr, epoch: Epoch, now: I) -> bool {
+        self.peers.get(peer).is_some_and(|m| m.silencing(Some(epoch), now))
     }
 
     /// The memories in the order of peers, without those that remember
