@@ -30,7 +30,8 @@ pub enum Source {
     RekeyMsg2,
 }
 
-/// Why a msg1 or a replacement is rejected.
+/// Why a msg1 or a replacement is rejected. Where several hold, `Silent` is told
+/// before `Full`, and `Full` before the others.
 #[derive(Clone, Copy, Debug, PartialEq, Eq)]
 pub enum Reason {
     Full,
