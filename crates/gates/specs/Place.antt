@@ -1,5 +1,5 @@
 -- What is remembered at the place that a search for a peer's memory answered.
-use mathlib.Core.Path.{_≡_, refl, ap}
+use mathlib.Core.Path.{_≡_, refl, ap, _∙_}
 use mathlib.Core.Option.{Option}
 use mathlib.Core.List.{List, []}
 use Prim.Native.Nat.{ℕ, _<_}
@@ -32,18 +32,20 @@ at-place {s} {r} {i} f a e =
     let b : i < length (viewGates s) = rw e at a in
     rw (entries-count entryOf f) at b
 
--- a search for the peer's memory answers such a place; what is judged there is judged of that memory, since a judgement reads nothing of its peer
+-- a search for the peer's memory answers such a place; what reads nothing of a memory's peer reads there what it reads of that memory
 module _ (p : Bytes) (g : List Memory) where
   pub place-in : (r : Found) → Finds r (scan (memoryOf p) 0 g) → PlaceIn r g
-  place-in (found.At i) f = place-within (memoryOf p) g i (finds-at f refl)
-  place-in found.Nothing f = tt
+  place-in (found.At i) q = place-within (memoryOf p) g i (finds-at q refl)
+  place-in found.Nothing q = tt
+
+  read-in : {B : Type 0} (f : Memory → B) → f (blank []) ≡ f (blank p) → (r : Found) → Finds r (scan (memoryOf p) 0 g) → f (memoryIn r g) ≡ f (memory p g)
+  read-in f e (found.At i) q = ap f (memory-at p g i noMemory (finds-at q refl))
+  read-in f e found.Nothing q = e ∙ ap f (memory-none p g (finds-none q refl))
 
   pub silenced-in : (r : Found) → Finds r (scan (memoryOf p) 0 g) → (now : ℕ) (s : Source) (e : Option ℕ) → silencedFor now s e (memoryIn r g) ≡ silencedFor now s e (memory p g)
   unfolding silencing
-  silenced-in (found.At i) f now s e = ap (λ (m : Memory). silencedFor now s e m) (memory-at p g i noMemory (finds-at f refl))
-  silenced-in found.Nothing f now s e = ap (λ (m : Memory). silencedFor now s e m) (memory-none p g (finds-none f refl))
+  silenced-in r q now s e = read-in (λ m. silencedFor now s e m) refl r q
 
   pub judged-in : (r : Found) → Finds r (scan (memoryOf p) 0 g) → (c : Params) (now : ℕ) (s : Source) (o : Option Held) (d : Bytes) → judged c now s o d (memoryIn r g) ≡ judged c now s o d (memory p g)
   unfolding judged judge replayed dampened
-  judged-in (found.At i) f c now s o d = ap (λ (m : Memory). judged c now s o d m) (memory-at p g i noMemory (finds-at f refl))
-  judged-in found.Nothing f c now s o d = ap (λ (m : Memory). judged c now s o d m) (memory-none p g (finds-none f refl))
+  judged-in r q c now s o d = read-in (λ m. judged c now s o d m) refl r q

@@ -38,7 +38,7 @@ fn bare(links: usize) -> World {
     w
 }
 
-/// Beside the held links the one answer waits that may.
+/// One answer may wait, and does, beside the held links.
 fn full(links: usize) -> World {
     let mut w = World::new(Some(Limits { resends: 5, pending: 1 }));
     w.hold_all(links.min(31));

@@ -1,5 +1,4 @@
 -- `call_admit::ruling::ruled` meets its contract.
-use mathlib.Core.Path.{sym, _∙_}
 use Rattle.gates.specs.Place.{place-in}
 use Rattle.call_admit.specs.Ruling.{denied-silent, denied-full, denied-pass, denied-refuse}
 use borrow.Author.Needs.{needs}
