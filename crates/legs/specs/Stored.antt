@@ -1,14 +1,14 @@
--- The search for a stored msg2: over the links in ascending order, over the addresses of each, for a leg that yields one.
+-- The search for a stored msg2: over the links from the newest down, over the addresses of each, for a leg that yields one.
 use mathlib.Core.Path.{_≡_, refl, sym, ap, _∙_}
 use mathlib.Core.Bool.{Bool, true, false, not, _&&_, _||_}
 use mathlib.Core.Option.{Option, none, some}
-use mathlib.Core.List.{List, [], _∷_, map}
-use Prim.Native.Nat.{ℕ, _+_, _≤_, _<_}
+use mathlib.Core.List.{List, [], _∷_, _++_, map}
+use Prim.Native.Nat.{ℕ, suc, _+_, _-_, _≤_, _<_}
 use native.Mathlib.Numerals.{add-one}
 use native.Mathlib.Omega.{arith}
 use borrow.Author.Tests.{eqb-true}
-use lib.Seq.{drop-cons}
-use lib.ListN.{length, drop, getD, length-map, drop-of-length-le}
+use lib.Seq.{drop-cons, take-all, take-suc}
+use lib.ListN.{length, take, drop, getD, length-map, drop-of-length-le}
 use Rattle.rules.specs.Base.{if_then_else_, option, is, orElse, Bytes, same, find, any}
 use Rattle.rules.specs.Data.{Pair, samePair, PathRec, LinkRec, Answered, Leg}
 use Rattle.rules.specs.Links.{provenAt, indexed}
@@ -170,33 +170,48 @@ module _ {o y : Option Stored} {f : Found} {t : Bytes} {bs : List Bool} {k j : �
         go (foundv.At i) n y = record { within = y .within; is = g (record { link = legAt t i .link; msg2 = answerOf (legAt t i) .msg2 }) (reach-here ∙ rw (sym e ∙ q) (y .is)) }
         go foundv.Nothing n y = absurd (omega arith)
 
--- ---- the outer loop stands at i: o is what the links from there on yield
-pub record Looking (o : Option Stored) (p : Pair) (bs : Bytes) (s : List Leg) (ls : List LinkRec) (n i : ℕ) : Type 0 where
-  pub count : n ≡ length ls
-  pub within : i ≤ n
-  pub left : o ≡ storedIn p bs s (drop i ls)
+-- ---- the outer loop has the first n links left: o is what they yield
+pub record Looking (o : Option Stored) (p : Pair) (bs : Bytes) (s : List Leg) (ls : List LinkRec) (n : ℕ) : Type 0 where
+  pub within : n ≤ length ls
+  pub left : o ≡ storedIn p bs s (take n ls)
 
-pub looking-start : (p : Pair) (bs : Bytes) (s : List Leg) (ls : List LinkRec) {n : ℕ} → n ≡ length ls → Looking (storedIn p bs s ls) p bs s ls n 0
-looking-start p bs s ls e = record { count = e; within = omega arith; left = refl }
+pub looking-start : (p : Pair) (bs : Bytes) (s : List Leg) (ls : List LinkRec) {n : ℕ} → n ≡ length ls → Looking (storedIn p bs s ls) p bs s ls n
+looking-start p bs s ls {n} e = record { within = omega arith; left = ap (storedIn p bs s) (sym (take-all n ls (omega arith))) }
 
-module _ {o : Option Stored} {p : Pair} {bs : Bytes} {s : List Leg} {ls : List LinkRec} {n i : ℕ} (a : Looking o p bs s ls n i) where
-  look-here : (d : LinkRec) → i < n → o ≡ orElse (storedOn p bs s (getD ls i d)) (storedIn p bs s (drop (i + 1) ls))
+or-none : {A : Type 0} (a : Option A) → orElse a none ≡ a
+or-none none = refl
+or-none (some x) = refl
+
+or-assoc : {A : Type 0} (a b c : Option A) → orElse (orElse a b) c ≡ orElse a (orElse b c)
+or-assoc none b c = refl
+or-assoc (some x) b c = refl
+
+-- the last of the links is looked at first
+stored-last : (p : Pair) (bs : Bytes) (s : List Leg) (ls : List LinkRec) (r : LinkRec) → storedIn p bs s (ls ++ (r ∷ [])) ≡ orElse (storedOn p bs s r) (storedIn p bs s ls)
+unfolding storedIn
+stored-last p bs s [] r = sym (or-none (storedOn p bs s r))
+stored-last p bs s (q ∷ ls) r = ap (λ (o : Option Stored). orElse o (storedOn p bs s q)) (stored-last p bs s ls r) ∙ or-assoc (storedOn p bs s r) (storedIn p bs s ls) (storedOn p bs s q)
+
+module _ {o : Option Stored} {p : Pair} {bs : Bytes} {s : List Leg} {ls : List LinkRec} {n : ℕ} (a : Looking o p bs s ls n) where
+  pub looking-end : n ≤ 0 → o ≡ none
   unfolding storedIn
-  look-here d h = a .left ∙ ap (storedIn p bs s) (drop-cons ls i d (omega arith) ∙ ap (λ (k : ℕ). getD ls i d ∷ drop k ls) (sym (add-one i)))
+  looking-end h = let z : n ≡ 0 = omega arith in a .left ∙ ap (λ (k : ℕ). storedIn p bs s (take k ls)) z
 
-  pub looking-hit : (d : LinkRec) {z : Stored} → i < n → storedOn p bs s (getD ls i d) ≡ some z → o ≡ some z
-  looking-hit d h e = look-here d h ∙ rw e
+  module _ (d : LinkRec) (h : 0 < n) where
+    look-here : o ≡ orElse (storedOn p bs s (getD ls (n - 1) d)) (storedIn p bs s (take (n - 1) ls))
+    look-here =
+        let z : n ≡ suc (n - 1) = omega arith in
+        a .left ∙ ap (λ (k : ℕ). storedIn p bs s (take k ls)) z ∙ ap (storedIn p bs s) (take-suc ls (n - 1) d (omega arith)) ∙ stored-last p bs s (take (n - 1) ls) (getD ls (n - 1) d)
 
-  pub looking-skip : (d : LinkRec) → i < n → storedOn p bs s (getD ls i d) ≡ none → Looking o p bs s ls n (i + 1)
-  looking-skip d h e = record { count = a .count; within = omega arith; left = look-here d h ∙ rw e }
+    pub looking-hit : {z : Stored} → storedOn p bs s (getD ls (n - 1) d) ≡ some z → o ≡ some z
+    looking-hit e = look-here ∙ rw e
 
-  pub looking-end : n ≤ i → o ≡ none
-  unfolding storedIn
-  looking-end h = a .left ∙ ap (storedIn p bs s) (drop-of-length-le ls {i = i} (omega arith))
+    pub looking-skip : storedOn p bs s (getD ls (n - 1) d) ≡ none → Looking o p bs s ls (n - 1)
+    looking-skip e = record { within = omega arith; left = look-here ∙ rw e }
 
 -- ---- no legs: nothing is stored
 pub looking-none : (p : Pair) (bs : Bytes) (s : List Leg) (ls : List LinkRec) → length s ≡ 0 → storedIn p bs s ls ≡ none
 unfolding storedIn storedOn
 looking-none p bs [] [] e = refl
-looking-none p bs [] (r ∷ ls) e = ap (λ (o : Option Stored). orElse o (storedIn p bs [] ls)) (either (indexed p r) none) ∙ looking-none p bs [] ls e
+looking-none p bs [] (r ∷ ls) e = ap (λ (o : Option Stored). orElse o (if indexed p r then none else none)) (looking-none p bs [] ls e) ∙ either (indexed p r) none
 looking-none p bs (g ∷ s) ls e = absurd (omega arith)

@@ -1,4 +1,4 @@
-// The search for a stored msg2: over the links in ascending order, and the addresses of each whose leg yields one, left at the first that counts.
+// The search for a stored msg2: over the links from the newest down, and the addresses of each whose leg yields one, left at the first that counts.
 use crate::map::find_leg;
 use crate::map::leg_count;
 use legs_entry::at::stored_at;
@@ -77,9 +77,10 @@ pub fn stored(links: &[u8], legs: &[u8], rec: &[u8], from: usize, at: usize, n: 
         return Found::Nothing;
     }
     let end = link_count(links);
-    let mut i = 0;
+    let mut left = end;
     let mut found = Found::Nothing;
-    'search: while i < end {
+    'search: while 0 < left {
+        let i = left - 1;
         let l = no_at(links, i);
         let f = yielding(legs, l, rec, at, n);
         let k = addresses(links, i, f);
@@ -91,7 +92,7 @@ pub fn stored(links: &[u8], legs: &[u8], rec: &[u8], from: usize, at: usize, n: 
             }
             j += 1;
         }
-        i += 1;
+        left = i;
     }
     found
 }

@@ -16,6 +16,7 @@ pub mod Bounds
 pub mod Size
 pub mod Records
 pub mod SilentFirst
+pub mod Newest
 pub mod Time
 pub mod Numbers
 pub mod Rows

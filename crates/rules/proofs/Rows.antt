@@ -110,6 +110,22 @@ stamped15 = holds 0 5 1 1 ++ (on 0 (Call.Heard them A) ∷ []) ++ holds (seconds
 abbrev pub marked : List Timed
 marked = dials 0 them 9 ∷ on 0 (Call.Msg1 (hello1 them B 5 1) true) ∷ on 0 (Call.Msg2 1 5 A) ∷ on 0 (Call.Sent 2) ∷ []
 
+-- a msg1 of another peer from a pair with these bytes, whose answer is 4, and its lease
+abbrev pub hello4 : Pair → Bytes → ℕ → Hello
+hello4 from b l = record { peer = replicate 16 0x23; from = from; bytes = b; ephemeral = replicate 32 l; epoch = 5; msg2 = 4 ∷ []; lease = l }
+
+-- then the other peer's from there was answered on link 3, not yet sent
+abbrev pub marked3 : List Timed
+marked3 = marked ++ (on 0 (Call.Msg1 (hello4 B (3 ∷ []) 2) true) ∷ [])
+
+-- or it came from A, and link 3 has a path at B in this state
+abbrev pub markedPath : Proven → List Timed
+markedPath v = marked ++ (on 0 (Call.Msg1 (hello4 A (3 ∷ []) 2) true) ∷ on 0 (Call.Path 3 B v) ∷ [])
+
+-- or the other peer is held by a dial, and its replacement from B with these bytes was answered on link 4, and sent
+abbrev pub marked4 : Bytes → List Timed
+marked4 b = marked ++ (dials 0 (replicate 16 0x23) 8 ∷ on 0 (Call.Replacement (hello4 B b 2)) ∷ on 0 (Call.Msg2 3 5 A) ∷ on 0 (Call.Sent 4) ∷ [])
+
 abbrev pub heardThenRemoved : ℕ → List Timed
 heardThenRemoved now = on now (Call.Heard them A) ∷ on now (Call.Remove them Why.Admin) ∷ []
 
@@ -297,6 +313,16 @@ pub record Rows : Type 0 where
   pub answer-unsent : says (msg1s 0 5 1 ∷ []) (on 0 (Call.Arrived A (3 ∷ []))) ≡ Output.Answer 1 true (2 ∷ []) ∷ []
   pub answer-sent : says marked (on 0 (Call.Arrived B (3 ∷ []))) ≡ []
   pub answer-equal : says marked (on 0 (Call.Arrived B (1 ∷ []))) ≡ Output.Answer 2 true (2 ∷ []) ∷ []
+  -- Where several links at one address yield one, the newest answers: not yet sent, before an older one with equal msg1 bytes; by a path; with equal bytes too.
+  pub newest-unsent : says marked3 (on 0 (Call.Arrived B (1 ∷ []))) ≡ Output.Answer 3 true (4 ∷ []) ∷ []
+  pub newest-msg1 : says marked3 (on 0 (Call.Msg1 (hello1 them B 5 3) true)) ≡ Output.Answer 3 true (4 ∷ []) ∷ Free 3 ∷ []
+  pub newest-path : says (markedPath Live) (on 0 (Call.Arrived B (1 ∷ []))) ≡ Output.Answer 3 true (4 ∷ []) ∷ []
+  pub newest-equal : says (marked4 (1 ∷ [])) (on 0 (Call.Arrived B (1 ∷ []))) ≡ Output.Answer 4 true (4 ∷ []) ∷ []
+  -- An older one answers where the newest yields none (sent, other bytes; no leg any more), or is not there by the index (released; a Probing path).
+  pub older-sent : says (marked4 (3 ∷ [])) (on 0 (Call.Arrived B (1 ∷ []))) ≡ Output.Answer 2 true (2 ∷ []) ∷ []
+  pub older-installed : says (marked3 ++ (on 0 (Call.Sent 3) ∷ [])) (on 0 (Call.Arrived B (1 ∷ []))) ≡ Output.Answer 2 true (2 ∷ []) ∷ []
+  pub older-released : says (marked3 ++ (on 0 (Call.Release 3 B false) ∷ [])) (on 0 (Call.Arrived B (1 ∷ []))) ≡ Output.Answer 2 true (2 ∷ []) ∷ []
+  pub older-probing : says (markedPath Probing) (on 0 (Call.Arrived B (1 ∷ []))) ≡ Output.Answer 2 true (2 ∷ []) ∷ []
   -- heard clears replays and silence, never the stamp.
   pub heard-keeps-stamp : says (stamped15 ++ heardThenRemoved (seconds 15) ++ holds (seconds 15) 6 3 3) (msg1s (seconds 17) 7 4) ≡ rejected Source.Restart Dampened 4
   pub heard-clears-replays : says (holds 0 5 1 1 ++ heardThenRemoved 0 ++ holds 0 5 2 2) (msg1s (seconds 1) 6 1) ≡ passed 2
@@ -349,6 +375,14 @@ rows = record {
   answer-unsent = refl;
   answer-sent = refl;
   answer-equal = refl;
+  newest-unsent = refl;
+  newest-msg1 = refl;
+  newest-path = refl;
+  newest-equal = refl;
+  older-sent = refl;
+  older-installed = refl;
+  older-released = refl;
+  older-probing = refl;
   heard-keeps-stamp = refl;
   heard-clears-replays = refl;
 }

@@ -199,7 +199,7 @@ stored-msg2 b g f = option-by (IfAny (AtMost 128)) (answered (g .kind)) (λ e. t
 stored-fits : (p : Pair) (b : Bytes) (gs : List Leg) (s : List LinkRec) → All LegFits gs → All LinkFits s → IfAny StoredFits (storedIn p b gs s)
 unfolding storedIn storedOn
 stored-fits p b gs [] f k = tt
-stored-fits p b gs (r ∷ s) f k = first (storedOn p b gs r) (storedIn p b gs s) here (stored-fits p b gs s f (k .1))
+stored-fits p b gs (r ∷ s) f k = search (first, here, stored-fits p b gs s f (k .1))
   where
     first : (o q : Option Stored) → IfAny StoredFits o → IfAny StoredFits q → IfAny StoredFits (orElse o q)
     first none q x y = y

@@ -139,10 +139,10 @@ storedOn p bytes s r =
     if indexed p r then option (find (onLink (r .no)) s) none (λ g. option (storedMsg2 bytes g) none λ m. some (record { link = r .no; msg2 = m }))
     else none
 
--- The first link, in ascending order, that yields a stored msg2 ends the search.
+-- The newest link, that of the highest number and so the last of the list, that yields a stored msg2 ends the search.
 unfoldable pub storedIn : Pair → Bytes → List Leg → List LinkRec → Option Stored
 storedIn p bytes s [] = none
-storedIn p bytes s (r ∷ rs) = orElse (storedOn p bytes s r) (storedIn p bytes s rs)
+storedIn p bytes s (r ∷ rs) = orElse (storedIn p bytes s rs) (storedOn p bytes s r)
 
 unfoldable pub stored : Pair → Bytes → Table → Option Stored
 stored p bytes t = storedIn p bytes (t .legs) (t .links)

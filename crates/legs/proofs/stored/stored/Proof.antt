@@ -15,19 +15,19 @@ use Rattle.legs.proofs.stored.stored.Statement.{statement}
 use Rattle.legs.proofs.stored.stored.Tie as tie
 
 abbrev Inv-loop : tie.InvT-loop
-Inv-loop links legs rec from at n end i found₀ f k j₀ found j =
+Inv-loop links legs rec from at n end left found₀ i f k j₀ found j =
     Reaching (storedOn (pairHere (drop from rec)) (take n (drop at rec)) (viewLegs legs) (linkAt links i)) (yieldOf (take n (drop at rec)) (viewLegs legs) (linkAt links i .no)) f legs (reach (pairHere (drop from rec)) (linkAt links i)) k j
     × (found ≡ foundv.Nothing)
 
 abbrev μ-loop : tie.MeasureT-loop
-μ-loop links legs rec from at n end i found₀ f k j₀ found j = k - j
+μ-loop links legs rec from at n end left found₀ i f k j₀ found j = k - j
 
 abbrev Inv-search : tie.InvT-search
-Inv-search links legs rec from at n end i₀ found₀ i found =
-    Looking (storedIn (pairHere (drop from rec)) (take n (drop at rec)) (viewLegs legs) (viewLinks links)) (pairHere (drop from rec)) (take n (drop at rec)) (viewLegs legs) (viewLinks links) end i × (found ≡ foundv.Nothing)
+Inv-search links legs rec from at n end left₀ found₀ left found =
+    Looking (storedIn (pairHere (drop from rec)) (take n (drop at rec)) (viewLegs legs) (viewLinks links)) (pairHere (drop from rec)) (take n (drop at rec)) (viewLegs legs) (viewLinks links) left × (found ≡ foundv.Nothing)
 
 abbrev μ-search : tie.MeasureT-search
-μ-search links legs rec from at n end i₀ found₀ i found = end - i
+μ-search links legs rec from at n end left₀ found₀ left found = left
 
 returns : tie.Need-returns Inv-loop μ-loop Inv-search μ-search
 returns c = tells-no (looking-none _ _ _ _ (sym (c .before .leg-count .ensures .1) ∙ c .if1 .taken))
@@ -73,6 +73,7 @@ stored-spec =
     returns
     (λ c κs. search needs)
     search-holds
+    (λ c. search needs)
     no-at-requires
     (λ c κs. search needs)
     addresses-requires
@@ -81,7 +82,6 @@ stored-spec =
     (λ c. search needs)
     (λ c. search needs)
     loop-again
-    (λ c. search needs)
     (λ c. search needs)
     search-again
     returns-2
