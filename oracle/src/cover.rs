@@ -70,6 +70,7 @@ impl Counts {
         all.extend(rows("reject Restart", &DENIALS[..6]));
         all.extend(rows("reject Replacement", &DENIALS));
         all.extend(rows("SilentFirst", &["msg1 NotHeld", "replacement NotHeld", "replacement Replacement"]));
+        all.extend(["arrived", "msg1"].iter().flat_map(|c| rows(&format!("NewestLink {c}"), &["2", "3", "4 or more"])));
         all.extend(rows("build", &["Fresh", "FromCarry"]));
         all.extend(rows("wake", &["0", "1"]));
         for row in all {
@@ -105,7 +106,7 @@ impl Counts {
         let dumps = || tape::tables(bytes, dump::dump);
         let outputs = tape::run(bytes) != departure::without(&[d], || tape::run(bytes));
         let tables = dumps() != departure::without(&[d], dumps);
-        assert!(d != Departure::SilentFirst || !tables, "neither Full nor Silent alters the table");
+        assert!(d == Departure::LastReading || !tables, "neither Full nor Silent nor a stored Answer alters the table");
         self.add(format!("{d:?} tapes, other outputs"), outputs.into());
         self.add(format!("{d:?} tapes, other tables"), tables.into());
     }
@@ -120,6 +121,11 @@ impl Counts {
                     self.add(format!("silent {name}"), 1);
                 }
                 let (silent, past) = (s.met.of(Departure::SilentFirst), s.met.of(Departure::LastReading));
+                let older = s.met.of(Departure::NewestLink);
+                if older > 0 {
+                    let links = if older > 2 { "4 or more".into() } else { (older + 1).to_string() };
+                    self.add(format!("NewestLink {name} {links}"), 1);
+                }
                 if past > 0 {
                     self.add(format!("LastReading {name}"), past);
                 }

@@ -6,13 +6,16 @@ use std::sync::atomic::{AtomicBool, AtomicU64, Ordering::Relaxed};
 
 #[derive(Clone, Copy, Debug, PartialEq, Eq)]
 pub enum Departure {
+    /// Paper 5: of the links that yield a stored msg2 the newest answers. It
+    /// decides once for each older one.
+    NewestLink,
     /// Paper 8: Silent is looked at before Full.
     SilentFirst,
     /// Paper 9: a sum past the last reading gives the last reading.
     LastReading,
 }
 
-pub const ALL: [Departure; 2] = [Departure::SilentFirst, Departure::LastReading];
+pub const ALL: [Departure; 3] = [Departure::NewestLink, Departure::SilentFirst, Departure::LastReading];
 
 static LEFT_OUT: [AtomicBool; ALL.len()] = [const { AtomicBool::new(false) }; ALL.len()];
 static MET: [AtomicU64; ALL.len()] = [const { AtomicU64::new(0) }; ALL.len()];

@@ -9,7 +9,7 @@ use crate::dump::nanos;
 use crate::identity::NodeAddr;
 use crate::node::Node;
 use crate::proto::settle::gates::Epoch;
-use crate::proto::settle::legs::Kind;
+use crate::proto::settle::legs::{Kind, Leg};
 use crate::proto::settle::links::{LinkNo, Pair};
 use crate::plan::{self, Item};
 use crate::profile::{self, Pace, Profile, Settings};
@@ -57,6 +57,8 @@ struct Generator {
     /// A run of calls about one peer, while it lasts.
     plan: VecDeque<Item>,
     about: NodeAddr,
+    /// The pair of a run of peers.
+    here: Pair,
     epoch_planned: u64,
     made: u8,
 }
@@ -64,8 +66,8 @@ struct Generator {
 impl Generator {
     fn new(r: Random, profile: Profile) -> Self {
         let tape = Tape::default();
-        let (plan, about) = (VecDeque::new(), peer_no(1));
-        Generator { r, profile, tape, now: 0, lease: 0, plan, about, epoch_planned: 0, made: 0 }
+        let (plan, about, here) = (VecDeque::new(), peer_no(1), own_pair(0));
+        Generator { r, profile, tape, now: 0, lease: 0, plan, about, here, epoch_planned: 0, made: 0 }
     }
 
     // ---- new
@@ -107,6 +109,7 @@ impl Generator {
         let (silent, resends) = match kind {
             Settings::Extreme => (self.end32(), self.end32()),
             Settings::Gates => (self.r.below(3) as u32, self.r.below(5) as u32),
+            Settings::Reconnects => (1000, self.r.below(5) as u32),
             _ => (self.r.below(4) as u32, self.r.below(5) as u32),
         };
         let (replays, counted) = match kind {
@@ -118,6 +121,7 @@ impl Generator {
             Settings::Long => self.r.pick(&[1000, 1000, 1000, 40, 31, 16]).unwrap_or(0),
             Settings::Silences => 1000,
             Settings::Crowded => 1 + self.r.below(4),
+            Settings::Reconnects => self.r.pick(&[1000, 1000, 5, 3]).unwrap_or(0),
             Settings::Extreme => self.r.pick(&[0, 1, 2, 3, u64::MAX]).unwrap_or(0),
             Settings::Gates => self.r.pick(&[2, 5, 1000, 1000]).unwrap_or(0),
             _ => self.r.pick(&[0, 1, 2, 3, 3, 1000, 1000, u64::MAX]).unwrap_or(0),
@@ -146,7 +150,7 @@ impl Generator {
             Settings::Silences => 1 << 50,
             Settings::Crowded if i == 2 => 100 + self.r.below(1000),
             Settings::Crowded if i == 3 => 1 << 20,
-            Settings::Crowded if i == 5 => 1 << 12,
+            Settings::Crowded | Settings::Reconnects if i == 5 => 1 << 12,
             Settings::Gates if i == 2 => 2 + self.r.below(30),
             Settings::Gates if i == 3 => self.r.below(200),
             Settings::Gates if i == 4 => self.r.below(80),
@@ -187,10 +191,14 @@ impl Generator {
         if self.plan.is_empty() && self.r.chance(chance) {
             self.about = self.peer();
             self.epoch_planned = self.r.below(self.profile.epochs);
+            if self.profile.settings == Settings::Reconnects {
+                self.here = self.pair();
+            }
             if let Some(node) = &self.tape.node {
                 self.plan = match self.profile.settings {
                     Settings::Silences => plan::long_silence(&mut self.r),
                     Settings::Crowded => plan::crowd(node.table.params(), &mut self.r),
+                    Settings::Reconnects => plan::reconnects(node.table.params(), &mut self.r),
                     _ => plan::draw(node.table.params(), &mut self.r),
                 }
                 .into();
@@ -220,6 +228,10 @@ impl Generator {
     fn planned(&mut self, item: Item) -> Option<Vec<u8>> {
         if let Some(now) = self.planned_time(item) {
             self.now = now;
+            return None;
+        }
+        if let Item::Next = item {
+            self.about = self.newcomer();
             return None;
         }
         let (mut w, about) = (self.begin(), self.about);
@@ -270,9 +282,81 @@ impl Generator {
                 }
                 if replacement { 5 } else { 4 }
             }
-            _ => self.planned_sent(&mut w),
+            Item::Sent => self.planned_sent(&mut w),
+            _ => self.planned_here(item, &mut w),
         };
         Some(finish(kind, w))
+    }
+
+    /// The items of a run of peers at one pair.
+    fn planned_here(&mut self, item: Item, w: &mut Writer) -> u8 {
+        let (about, here) = (self.about, self.here.clone());
+        match item {
+            Item::Again { replacement } => {
+                self.hello_from(w, about, &here, self.epoch_planned, true);
+                if !replacement {
+                    w.flag(self.r.chance(50));
+                }
+                if replacement { 5 } else { 4 }
+            }
+            Item::Completed => {
+                let from = self.pair();
+                w.link(self.leg_of(about, true)).u64(self.epoch_planned).pair(&from);
+                8
+            }
+            Item::Answered => {
+                w.link(self.leg_of(about, false));
+                6
+            }
+            Item::Reach => {
+                let link = self.link_no(Wants::AnswerOnly);
+                w.link(link).pair(&here).byte(self.r.weighed(&[4, 2, 3]) as u8);
+                14
+            }
+            Item::Leave => {
+                w.link(self.newest_answer()).pair(&here).flag(self.r.chance(30));
+                15
+            }
+            Item::Ask { read: true } => {
+                let (peer, epoch) = (self.peer(), self.epoch_planned);
+                self.hello_from(w, peer, &here, epoch, true);
+                w.flag(self.r.chance(50));
+                4
+            }
+            _ => {
+                w.pair(&here);
+                self.message(w);
+                3
+            }
+        }
+    }
+
+    /// A peer that is not held and has no leg, if one is soon drawn.
+    fn newcomer(&mut self) -> NodeAddr {
+        let mut peer = self.peer();
+        for _ in 0..8 {
+            let known = self.node().is_some_and(|n| {
+                n.table.held(&peer).is_some() || n.table.legs().all().any(|l| l.peer() == Some(peer))
+            });
+            if known {
+                peer = self.peer();
+            }
+        }
+        peer
+    }
+
+    /// The last leg of the peer, a dial or an answer; without one the last link.
+    fn leg_of(&self, peer: NodeAddr, dial: bool) -> LinkNo {
+        let its = |l: &&Leg<Clock>| l.peer() == Some(peer) && (*l.kind() == Kind::Dial) == dial;
+        let leg = self.node().and_then(|n| n.table.legs().all().filter(its).last());
+        leg.map_or(self.last_link(), |l| l.link())
+    }
+
+    /// The newest link with an answer, without one the last.
+    fn newest_answer(&self) -> LinkNo {
+        let answers = |l: &&Leg<Clock>| *l.kind() != Kind::Dial;
+        let leg = self.node().and_then(|n| n.table.legs().all().filter(answers).last());
+        leg.map_or(self.last_link(), |l| l.link())
     }
 
     fn planned_time(&mut self, item: Item) -> Option<u64> {
@@ -307,13 +391,17 @@ impl Generator {
 
     /// A msg1 that no stored answer swallows: it comes from a pair of its own.
     fn planned_hello(&mut self, w: &mut Writer, peer: NodeAddr, epoch: u64, fresh: bool) {
+        let from = own_pair(self.made.wrapping_add(1));
+        self.hello_from(w, peer, &from, epoch, fresh);
+    }
+
+    fn hello_from(&mut self, w: &mut Writer, peer: NodeAddr, from: &Pair, epoch: u64, fresh: bool) {
         self.made = self.made.wrapping_add(1);
         let mut digest = self.digest();
         if fresh {
             digest[30] = self.made;
         }
-        let from = Pair { transport: TransportId(9), addr: TransportAddr(vec![self.made]) };
-        w.peer(peer).pair(&from);
+        w.peer(peer).pair(from);
         self.message(w);
         w.run(&digest).u64(epoch);
         self.message(w);
@@ -619,6 +707,11 @@ fn peer_no(n: u64) -> NodeAddr {
     let mut name = [0x20; 16];
     name[15] = n as u8;
     NodeAddr(name)
+}
+
+/// A pair that only one msg1 comes from.
+fn own_pair(made: u8) -> Pair {
+    Pair { transport: TransportId(9), addr: TransportAddr(vec![made]) }
 }
 
 /// The record of `kind` with the fields of `w`.

@@ -68,7 +68,7 @@ impl Node {
         let ends = matches!(call, Call::Close | Call::Release(..));
         let epoch = hello_epoch(&call);
         let mut next = self.table.copy();
-        let mut outputs = next.call(call, now);
+        let mut outputs = self.newest_link(&mut next, call, now);
         if let Some(epoch) = epoch {
             self.silent_first(epoch, now, &mut outputs);
         }
@@ -113,6 +113,23 @@ impl Node {
             return Err(NAMES);
         }
         Ok(())
+    }
+
+    /// The call on a copy of the table. For a msg1, or the arrival of one, the
+    /// index names no link that gives way to a newer; where one does, an answer
+    /// is stored, and the call changes nothing.
+    fn newest_link(&self, next: &mut Table<Clock>, call: Call, now: Clock) -> Vec<Output> {
+        let older = match &call {
+            Call::Arrived(from, bytes) => self.table.older(from, bytes),
+            Call::Msg1(h, _) => self.table.older(&h.from, &h.bytes),
+            _ => Vec::new(),
+        };
+        next.links_mut().hide(&older);
+        let outputs = next.call(call, now);
+        if !older.is_empty() {
+            next.links_mut().show();
+        }
+        outputs
     }
 
     /// A Reject whose reason is Full is read as Silent where its source asks

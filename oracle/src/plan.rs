@@ -1,6 +1,6 @@
 //! Runs of calls about one peer that lead up to a judgement of the gates or
 //! through a dial's resends, with the clock on, just before or just after the
-//! time that decides.
+//! time that decides; and runs of peers that come from one pair.
 
 use crate::dump::nanos;
 use crate::proto::settle::params::Params;
@@ -37,6 +37,20 @@ pub enum Item {
     /// The last answer or msg1 is sent.
     Sent,
     Remove,
+    /// Another peer, which is not held and has no leg if there is one.
+    Next,
+    /// A msg1, or a replacement, from the planned pair.
+    Again { replacement: bool },
+    /// The peer's dial completes.
+    Completed,
+    /// The peer's answer is sent.
+    Answered,
+    /// A link with an answer has a path at the planned pair.
+    Reach,
+    /// The newest link with an answer releases the planned pair.
+    Leave,
+    /// A msg1 arrives from the planned pair, and may then be read.
+    Ask { read: bool },
 }
 
 /// Holders end unheard until the factor of the refusal no longer fits.
@@ -77,6 +91,38 @@ pub fn crowd(p: &Params, r: &mut Random) -> Vec<Item> {
     }
     items.extend([Item::Remove, Item::Wait(nanos(p.handshake)), Item::Poll]);
     items
+}
+
+/// Peers come from one pair, one after another, so that several links there
+/// have answers: waiting, sent, or by a path. Msg1s come from it meanwhile and
+/// after. Then, mostly, the answers are reaped.
+pub fn reconnects(p: &Params, r: &mut Random) -> Vec<Item> {
+    let mut items = Vec::new();
+    for _ in 0..2 + r.below(3) {
+        let (sent, again) = (r.chance(60), Item::Again { replacement: r.chance(70) });
+        items.push(Item::Next);
+        items.extend(if sent { vec![Item::Dial, again, Item::Completed, Item::Answered] } else { vec![again] });
+        if r.chance(40) {
+            items.push(ask(r));
+        }
+    }
+    for _ in 0..2 + r.below(4) {
+        items.push(ask(r));
+        items.push(match r.below(4) {
+            0 => Item::Leave,
+            1 => Item::Reach,
+            2 => Item::Answered,
+            _ => ask(r),
+        });
+    }
+    if r.chance(70) {
+        items.extend([Item::Wait(nanos(p.handshake)), Item::Poll]);
+    }
+    items
+}
+
+fn ask(r: &mut Random) -> Item {
+    Item::Ask { read: r.chance(40) }
 }
 
 pub fn draw(p: &Params, r: &mut Random) -> Vec<Item> {

@@ -3,8 +3,10 @@
 
 use crate::random::Random;
 
-pub const NAMES: [&str; 10] =
-    ["few", "full", "gates", "silences", "extreme", "last", "damaged", "mixed", "soak", "crowded"];
+pub const NAMES: [&str; 11] = [
+    "few", "full", "gates", "silences", "extreme", "last", "damaged", "mixed", "soak", "crowded",
+    "reconnects",
+];
 
 #[derive(Clone, Copy, PartialEq, Eq)]
 pub enum Settings {
@@ -21,6 +23,8 @@ pub enum Settings {
     Silences,
     /// Refusals that last, and room for few answers, which wait long.
     Crowded,
+    /// No refusals, answers that wait long.
+    Reconnects,
 }
 
 #[derive(Clone, Copy, PartialEq, Eq)]
@@ -68,6 +72,7 @@ const FEW: [u64; 16] = [14, 2, 6, 14, 5, 16, 4, 14, 2, 5, 5, 4, 1, 7, 4, 3];
 const GATES: [u64; 16] = [4, 2, 1, 34, 14, 8, 1, 4, 1, 7, 8, 4, 0, 1, 1, 1];
 const SILENT: [u64; 16] = [2, 2, 1, 40, 10, 8, 1, 2, 1, 1, 24, 4, 0, 1, 1, 1];
 const FULL: [u64; 16] = [26, 1, 3, 26, 3, 18, 1, 6, 1, 1, 5, 1, 0, 9, 2, 1];
+const AGAIN: [u64; 16] = [6, 2, 16, 14, 16, 8, 3, 5, 1, 2, 8, 2, 1, 10, 5, 1];
 const NAMED: [u64; 16] = [8, 3, 1, 30, 4, 30, 1, 6, 1, 1, 20, 1, 0, 2, 2, 1];
 
 /// The profile `name`, varied by the draw.
@@ -115,6 +120,18 @@ pub fn named(name: &str, r: &mut Random) -> Option<Profile> {
             messages: 30,
             settings: Settings::Crowded,
             weights: GATES,
+            ..even
+        },
+        "reconnects" => Profile {
+            peers: 10,
+            pairs: 3,
+            digests: 30,
+            fresh: 60,
+            plan: 30,
+            messages: 3,
+            settings: Settings::Reconnects,
+            pace: Pace::Slow,
+            weights: AGAIN,
             ..even
         },
         _ => return None,

@@ -58,6 +58,14 @@ fn leg(links: usize, dial: bool, endless: bool) -> World {
     w
 }
 
+/// The same where the leg, an answer, is the newest link.
+fn newest(links: usize) -> World {
+    let mut w = World::new(None);
+    w.hold_all(links - 1);
+    w.answered(STRANGER);
+    w
+}
+
 fn due(links: usize) -> World {
     let mut w = leg(links, true, false);
     w.now += 2 * SECOND;
@@ -141,7 +149,8 @@ const CLOSED: &[u8] = &[7, 8];
 /// By kind. Close is apart: nothing brings its table back.
 pub const CASES: &[Case] = &[
     case("dial", "dial, abandon", &[&[1], &[11, 8]], below, dialed),
-    case("stored", "arrived: stored answer", &[&[2]], |n| leg(n, false, false), |w| w.arrived(&pair(STRANGER, 0))),
+    case("stored", "arrived: stored answer, oldest link", &[&[2]], |n| leg(n, false, false), |w| w.arrived(&pair(STRANGER, 0))),
+    case("stored-newest", "arrived: stored answer, newest link", &[&[2]], newest, |w| w.arrived(&pair(STRANGER, 0))),
     case("nothing", "arrived: nothing", &[&[]], held, |w| w.arrived(&pair(STRANGER, 0))),
     case("rekey", "msg1: Rekey", &[&[4, 11]], held, rekey),
     case("reject", "msg1: Reject", &[&[13, 11]], held, restart),

@@ -17,6 +17,16 @@ impl Links {
         self.recs.values().any(|r| r.uses(pair))
     }
 
+    /// The index names these links no longer.
+    pub fn hide(&mut self, links: &[LinkNo]) {
+        self.index.retain(|(_, l)| !links.contains(l));
+    }
+
+    /// The index is the derived one again.
+    pub fn show(&mut self) {
+        self.reindex();
+    }
+
     /// Opens the link with that number.
     pub fn open_as(&mut self, no: LinkNo, setup: Pair, dir: Dir) {
         self.next = no.0;

@@ -2,6 +2,7 @@
 //! of it by themselves, for scripts.
 
 use super::*;
+use crate::departure::Departure;
 use crate::record::Call;
 use crate::time::Clock;
 
@@ -77,9 +78,27 @@ impl Table<Clock> {
         self.answered.remove(&link);
     }
 
+    /// Document 02, paper 5: the search for what is stored for `bytes` from
+    /// `from` goes downwards, so all links that yield an answer give way to the
+    /// newest. Here they are the reference's own answers, each found by its own
+    /// search with those before it left out of the index.
+    pub fn older(&self, from: &Pair, bytes: &[u8]) -> Vec<LinkNo> {
+        let mut rest = self.copy();
+        let mut found = Vec::new();
+        while let Some((link, _)) = rest.stored(from, bytes) {
+            rest.links.hide(&[link]);
+            found.push(link);
+        }
+        found.pop();
+        found.retain(|_| Departure::NewestLink.taken());
+        found
+    }
+
     /// The link of the answer that is stored for `bytes` from `from`.
     pub fn stored_at(&self, from: &Pair, bytes: &[u8]) -> Option<LinkNo> {
-        self.stored(from, bytes).map(|(link, _)| link)
+        let mut rest = self.copy();
+        rest.links.hide(&self.older(from, bytes));
+        rest.stored(from, bytes).map(|(link, _)| link)
     }
 
     /// How many answers are on record; as many as there are answer legs.
