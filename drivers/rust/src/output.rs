@@ -48,6 +48,7 @@ pub enum Reason {
 #[derive(Clone, Copy, Debug, PartialEq, Eq)]
 pub enum Output<'a> {
     Opened { link: u64 },
+    /// `stored`: the msg2 was made before, and is that of the newest link at the pair that has one for this msg1.
     Answer { link: u64, stored: bool, msg2: &'a [u8] },
     Resend { link: u64, message: &'a [u8] },
     Rekey { peer: Peer, on_link: bool, reachable: bool },
