@@ -309,7 +309,8 @@ impl Generator {
                 6
             }
             Item::Reach => {
-                let link = self.link_no(Wants::AnswerOnly);
+                let newest = self.r.chance(60);
+                let link = if newest { self.newest_answer() } else { self.link_no(Wants::AnswerOnly) };
                 w.link(link).pair(&here).byte(self.r.weighed(&[4, 2, 3]) as u8);
                 14
             }

@@ -45,7 +45,7 @@ pub enum Item {
     Completed,
     /// The peer's answer is sent.
     Answered,
-    /// A link with an answer has a path at the planned pair.
+    /// A link with an answer, mostly the newest, has a path at the planned pair.
     Reach,
     /// The newest link with an answer releases the planned pair.
     Leave,
@@ -102,6 +102,9 @@ pub fn reconnects(p: &Params, r: &mut Random) -> Vec<Item> {
         let (sent, again) = (r.chance(60), Item::Again { replacement: r.chance(70) });
         items.push(Item::Next);
         items.extend(if sent { vec![Item::Dial, again, Item::Completed, Item::Answered] } else { vec![again] });
+        if r.chance(30) {
+            items.extend([Item::Next, Item::Former, Item::Reach]);
+        }
         if r.chance(40) {
             items.push(ask(r));
         }
