@@ -178,19 +178,17 @@ pub record Looking (o : Option Stored) (p : Pair) (bs : Bytes) (s : List Leg) (l
 pub looking-start : (p : Pair) (bs : Bytes) (s : List Leg) (ls : List LinkRec) {n : ℕ} → n ≡ length ls → Looking (storedIn p bs s ls) p bs s ls n
 looking-start p bs s ls {n} e = record { within = omega arith; left = ap (storedIn p bs s) (sym (take-all n ls (omega arith))) }
 
-or-none : {A : Type 0} (a : Option A) → orElse a none ≡ a
-or-none none = refl
-or-none (some x) = refl
+-- the last of the links is looked at first, and the others if it yields none
+module _ (p : Pair) (bs : Bytes) (s : List Leg) (r : LinkRec) where
+  last-yields : (ls : List LinkRec) {z : Stored} → storedOn p bs s r ≡ some z → storedIn p bs s (ls ++ (r ∷ [])) ≡ some z
+  unfolding storedIn
+  last-yields [] e = e
+  last-yields (q ∷ ls) e = ap (λ (o : Option Stored). orElse o (storedOn p bs s q)) (last-yields ls e)
 
-or-assoc : {A : Type 0} (a b c : Option A) → orElse (orElse a b) c ≡ orElse a (orElse b c)
-or-assoc none b c = refl
-or-assoc (some x) b c = refl
-
--- the last of the links is looked at first
-stored-last : (p : Pair) (bs : Bytes) (s : List Leg) (ls : List LinkRec) (r : LinkRec) → storedIn p bs s (ls ++ (r ∷ [])) ≡ orElse (storedOn p bs s r) (storedIn p bs s ls)
-unfolding storedIn
-stored-last p bs s [] r = sym (or-none (storedOn p bs s r))
-stored-last p bs s (q ∷ ls) r = ap (λ (o : Option Stored). orElse o (storedOn p bs s q)) (stored-last p bs s ls r) ∙ or-assoc (storedOn p bs s r) (storedIn p bs s ls) (storedOn p bs s q)
+  last-passed : (ls : List LinkRec) → storedOn p bs s r ≡ none → storedIn p bs s (ls ++ (r ∷ [])) ≡ storedIn p bs s ls
+  unfolding storedIn
+  last-passed [] e = e
+  last-passed (q ∷ ls) e = ap (λ (o : Option Stored). orElse o (storedOn p bs s q)) (last-passed ls e)
 
 module _ {o : Option Stored} {p : Pair} {bs : Bytes} {s : List Leg} {ls : List LinkRec} {n : ℕ} (a : Looking o p bs s ls n) where
   pub looking-end : n ≤ 0 → o ≡ none
@@ -198,16 +196,16 @@ module _ {o : Option Stored} {p : Pair} {bs : Bytes} {s : List Leg} {ls : List L
   looking-end h = let z : n ≡ 0 = omega arith in a .left ∙ ap (λ (k : ℕ). storedIn p bs s (take k ls)) z
 
   module _ (d : LinkRec) (h : 0 < n) where
-    look-here : o ≡ orElse (storedOn p bs s (getD ls (n - 1) d)) (storedIn p bs s (take (n - 1) ls))
+    look-here : o ≡ storedIn p bs s (take (n - 1) ls ++ (getD ls (n - 1) d ∷ []))
     look-here =
         let z : n ≡ suc (n - 1) = omega arith in
-        a .left ∙ ap (λ (k : ℕ). storedIn p bs s (take k ls)) z ∙ ap (storedIn p bs s) (take-suc ls (n - 1) d (omega arith)) ∙ stored-last p bs s (take (n - 1) ls) (getD ls (n - 1) d)
+        a .left ∙ ap (λ (k : ℕ). storedIn p bs s (take k ls)) z ∙ ap (storedIn p bs s) (take-suc ls (n - 1) d (omega arith))
 
     pub looking-hit : {z : Stored} → storedOn p bs s (getD ls (n - 1) d) ≡ some z → o ≡ some z
-    looking-hit e = look-here ∙ rw e
+    looking-hit e = look-here ∙ last-yields p bs s (getD ls (n - 1) d) (take (n - 1) ls) e
 
     pub looking-skip : storedOn p bs s (getD ls (n - 1) d) ≡ none → Looking o p bs s ls (n - 1)
-    looking-skip e = record { within = omega arith; left = look-here ∙ rw e }
+    looking-skip e = record { within = omega arith; left = look-here ∙ last-passed p bs s (getD ls (n - 1) d) (take (n - 1) ls) e }
 
 -- ---- no legs: nothing is stored
 pub looking-none : (p : Pair) (bs : Bytes) (s : List Leg) (ls : List LinkRec) → length s ≡ 0 → storedIn p bs s ls ≡ none
