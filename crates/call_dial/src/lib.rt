@@ -1,4 +1,6 @@
 // Call 1: this node dials a peer.
+#![tactic(auto)]
+
 ghost use Rattle.std.specs.Prelude.{◌+◌, ◌^◌, ◌<◌, length};
 ghost use Rattle.rules.specs.Data.{Call};
 ghost use Rattle.rules.specs.Settle as rule;

@@ -1,4 +1,6 @@
 // Refusals 4, 5 and 6: whether there is a number for one more link, room for it, and a place for its peer.
+#![tactic(auto)]
+
 pub mod count;
 pub mod named;
 

@@ -1,4 +1,6 @@
 // One call on the table: the step of its kind; and those of a msg1.
+#![tactic(auto)]
+
 pub mod asks;
 
 ghost use Rattle.std.specs.Prelude.{◌≡◌, ◌≤◌, ◌<◌};

@@ -1,4 +1,6 @@
 // The judgement of a msg1, from what is remembered of its peer where that stands.
+#![tactic(auto)]
+
 ghost use Rattle.std.specs.Prelude.{◌≡◌, ◌<◌};
 ghost use Rattle.std.proofs.Math.Option.{none, some};
 ghost use Rattle.rules.specs.Base.{if◌then◌else◌, option, or_else, Bytes};

@@ -1,4 +1,6 @@
 // A memory changed, by value.
+#![tactic(auto)]
+
 pub mod lent;
 
 ghost use Rattle.std.specs.Prelude.{◌≡◌};

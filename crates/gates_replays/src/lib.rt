@@ -1,4 +1,6 @@
 // The digests that promoted a peer unheard, the oldest first.
+#![tactic(auto)]
+
 ghost use Rattle.std.specs.Prelude.{◌≡◌, ◌+◌, ◌≤◌, ◌<◌};
 ghost use mathlib.Core.List.{[], ◌∷◌, ◌++◌, tail};
 ghost use Rattle.rules.specs.Base.{if◌then◌else◌};

@@ -1,4 +1,6 @@
 // Sessions in a row that ended unheard.
+#![tactic(auto)]
+
 pub mod counted;
 
 ghost use Rattle.std.specs.Prelude.{◌≡◌, false, ◌≤◌};

@@ -1,4 +1,6 @@
 // What is remembered of one peer, by value: the stamp of a restart, the digests that promoted it unheard, its silences; and the cases of a judgement.
+#![tactic(auto)]
+
 ghost use Rattle.std.specs.Prelude.{◌≡◌};
 ghost use Rattle.gates_types.specs.View.{blank_replay, blank_replays, blank_digests, blank_silence, blank_memory};
 

@@ -1,4 +1,6 @@
 // Peers held, in lent memory: up to 32 in the order of their addresses, and then their count.
+#![tactic(auto)]
+
 pub mod at;
 mod change;
 mod entry;

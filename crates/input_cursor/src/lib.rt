@@ -1,4 +1,6 @@
 // Readers in a row: each is told whether all went well so far and where its field begins, hands the rest of the record to the field's reader, and passes both on. Where it reads nothing its answer is blank, place and value.
+#![tactic(auto)]
+
 ghost use Rattle.std.specs.Prelude.{◌≡◌, true, ◌&&◌, ◌+◌, ◌≤◌, ◌<◌, eqb, length, drop};
 ghost use Rattle.rules.specs.Field.{number, peer, lease, digest, flag, pair, message};
 ghost use Rattle.node_addr.specs.View.{view_pair, view_message, FitPair, FitMessage};

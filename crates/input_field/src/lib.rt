@@ -1,4 +1,6 @@
 // The fields of a record. Each reader is handed the rest of the record from the field's first byte, and answers whether the field is there, and its value (blank where it is not).
+#![tactic(auto)]
+
 ghost use Rattle.std.specs.Prelude.{◌≡◌, false, [], ◌+◌, ◌≤◌, ◌<◌, length, take, drop, replicate};
 ghost use Rattle.rules.specs.Field.{more, number, peer, lease, digest, flag, pair, message};
 ghost use Rattle.node_addr.specs.View.{view_pair, view_message, FitPair, FitMessage, blank_pair};

@@ -1,4 +1,6 @@
 // The start of a record: length (of what follows), version 1, kind, clock.
+#![tactic(auto)]
+
 pub mod kind;
 
 ghost use Rattle.std.specs.Prelude.{true};

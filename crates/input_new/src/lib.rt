@@ -1,4 +1,6 @@
 // The record of new: its clock, which nothing uses, me, the first link number, and the settings by their form.
+#![tactic(auto)]
+
 ghost use Rattle.std.specs.Prelude.{◌≡◌, ◌&&◌, ◌≤◌, eqb, length};
 ghost use Rattle.rules.specs.Record.{settings, form};
 ghost use Rattle.input_cursor.specs.Follow.{Stepped};

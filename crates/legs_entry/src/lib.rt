@@ -1,4 +1,6 @@
 // A handshake leg: by value, and in its entry in lent memory, read and written.
+#![tactic(auto)]
+
 pub mod at;
 pub mod cell;
 pub mod entry;

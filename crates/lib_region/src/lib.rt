@@ -1,4 +1,6 @@
 // A map in a lent region: cap entries of w bytes in a row, and then a byte that says how many there are.
+#![tactic(auto)]
+
 ghost use Rattle.std.specs.Prelude.{◌≡◌, ◌+◌, ◌*◌, ◌≤◌, ◌<◌, length, take, drop, get_or};
 ghost use Rattle.lib_laws.specs.Splice.{splice};
 ghost use Rattle.lib_laws.specs.Store.{Closes, Opens, erased, gapped};

@@ -1,4 +1,6 @@
 // Node addresses, transport addresses, digests and messages, by value.
+#![tactic(auto)]
+
 pub mod layout;
 pub mod place;
 pub mod run;

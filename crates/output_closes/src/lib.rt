@@ -1,4 +1,6 @@
 // The outputs with a list of pairs.
+#![tactic(auto)]
+
 ghost use Rattle.std.specs.Prelude.{[], ◌∷◌, ◌+◌, ◌≤◌, ◌<◌, length};
 ghost use Rattle.rules.specs.Base.{if◌then◌else◌};
 ghost use Rattle.rules.specs.Data.{Output, Retire};

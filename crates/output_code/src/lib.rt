@@ -1,4 +1,6 @@
 // The cases that an output names, and the byte of each.
+#![tactic(auto)]
+
 pub mod kind;
 
 ghost use Rattle.std.specs.Prelude.{◌≡◌, ◌<◌};

@@ -1,4 +1,6 @@
 // The parts of outputs: headers, flags, messages and pairs.
+#![tactic(auto)]
+
 pub mod layout;
 
 ghost use Rattle.std.specs.Prelude.{◌+◌, ◌≤◌, ◌<◌, length, take, drop};

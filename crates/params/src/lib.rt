@@ -1,4 +1,6 @@
 // The settings: their values by default, and which are within range.
+#![tactic(auto)]
+
 pub mod head;
 pub mod layout;
 pub mod time;

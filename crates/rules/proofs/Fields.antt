@@ -310,23 +310,23 @@ module _ {A : Type 0} (meanings : List A) where
 
 pub flag_codes : Codes flags one
 flag_codes = record {
-  there = λ b. elim b [ true ↦ refl | false ↦ refl ];
+  there = λ b. elim b as (λ k. get_elem? flags (one k) ≡ some k) [ true ↦ refl | false ↦ refl ];
   only = each_at (refl & refl & no_more);
-  small = λ b. elim b [ true ↦ lit< tt | false ↦ lit< tt ];
+  small = λ b. elim b as (λ k. one k < 256) [ true ↦ lit< tt | false ↦ lit< tt ];
 }
 
 pub state_codes : Codes states state_code
 state_codes = record {
-  there = λ v. elim v [ Live ↦ refl | Acked ↦ refl | Probing ↦ refl ];
+  there = λ v. elim v as (λ k. get_elem? states (state_code k) ≡ some k) [ Live ↦ refl | Acked ↦ refl | Probing ↦ refl ];
   only = each_at (refl & refl & refl & no_more);
-  small = λ v. elim v [ Live ↦ lit< tt | Acked ↦ lit< tt | Probing ↦ lit< tt ];
+  small = λ v. elim v as (λ k. state_code k < 256) [ Live ↦ lit< tt | Acked ↦ lit< tt | Probing ↦ lit< tt ];
 }
 
 pub why_codes : Codes whys why_code
 why_codes = record { there = there; only = each_at (refl & refl & refl & refl & refl & refl & refl & refl & refl & no_more); small = small }
   where
     there : (w : Why) → get_elem? whys (why_code w) ≡ some w
-    there w = elim w [
+    there w = elim w as (λ k. get_elem? whys (why_code k) ≡ some k) [
       | Why.Restart ↦ refl
       | Why.Replacement ↦ refl
       | OwnRestart ↦ refl
@@ -339,7 +339,7 @@ why_codes = record { there = there; only = each_at (refl & refl & refl & refl & 
     ]
 
     small : (w : Why) → why_code w < 256
-    small w = elim w [
+    small w = elim w as (λ k. why_code k < 256) [
       | Why.Restart ↦ lit< tt
       | Why.Replacement ↦ lit< tt
       | OwnRestart ↦ lit< tt

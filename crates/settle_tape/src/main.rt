@@ -1,4 +1,6 @@
 // settle-tape: a tape from standard input; for each record its outputs and Done to standard output.
+#![tactic(auto)]
+
 use table_layout::layout::TABLE_LEN;
 use tape::feed::run_tape;
 use tape::layout::{OUT_LEN, RECORD_LEN};

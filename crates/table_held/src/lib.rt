@@ -1,4 +1,6 @@
 // The held peers of the table.
+#![tactic(auto)]
+
 ghost use Rattle.std.specs.Prelude.{◌≡◌, ◌<◌, length, drop, set};
 ghost use Rattle.rules.specs.Base.{is, alter, without};
 ghost use Rattle.rules.specs.Data.{same_pair};

@@ -1,4 +1,6 @@
 // The handshake legs of the table.
+#![tactic(auto)]
+
 pub mod clear;
 pub mod open;
 

@@ -1,4 +1,6 @@
 // The link records of the table.
+#![tactic(auto)]
+
 ghost use Rattle.std.specs.Prelude.{◌≡◌, false, [], ◌∷◌, ◌<◌, length};
 ghost use Rattle.rules.specs.Base.{if◌then◌else◌, any};
 ghost use Rattle.rules.specs.Data.{same_pair, APeer};

@@ -1,4 +1,6 @@
 // A new table.
+#![tactic(auto)]
+
 ghost use Rattle.std.specs.Prelude.{◌≡◌, false, length};
 ghost use Rattle.rules.specs.Time.{out_of_range};
 ghost use Rattle.rules.specs.Entry.{new_table};

@@ -1,4 +1,6 @@
 // What the rules ask of more than one map.
+#![tactic(auto)]
+
 ghost use Rattle.std.specs.Prelude.{◌≡◌, true, false, ◌+◌, ◌≤◌, ◌<◌, length, take, drop};
 ghost use Rattle.rules.specs.Settle as settle;
 ghost use Rattle.node_addr.specs.View.{FitPair, view_pair};

@@ -1,4 +1,6 @@
 // A tape from standard input; after each record the bytes of the table, if there is one, to standard output. For comparison with the Rust's tables.
+#![tactic(auto)]
+
 ghost use Rattle.std.specs.Prelude.{◌≡◌, ◌≤◌, length};
 ghost use Rattle.table_layout.specs.Layout.{table_len};
 ghost use Rattle.tape.specs.Layout.{out_len, record_len};

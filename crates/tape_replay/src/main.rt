@@ -1,4 +1,6 @@
 // Stored tapes, each the count of its bytes in 4 bytes and then the bytes; what settle-tape writes for each. A tape that cannot be run whole ends the program, with a message on standard error.
+#![tactic(auto)]
+
 ghost use Rattle.std.specs.Prelude.{◌≡◌, ◌≤◌, length};
 ghost use Rattle.table_layout.specs.Layout.{table_len};
 

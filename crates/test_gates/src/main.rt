@@ -3,6 +3,8 @@
 // memory PEER (the stamp; how many replays; of the silences the epoch, how many, the end of the refusal, how many digests) ·
 // live HOLDER INSTALLED LAST: of what is asked from there on, a holder 0 none, 1 unheard, 2 heard by its setup only, 3 heard by a frame ·
 // ask PEER SOURCE DIGEST EPOCH CLOCK, a source 0 NotHeld, 1 Restart, 2 Replacement, 3 OwnMsg2, 4 RekeyMsg2
+#![tactic(auto)]
+
 mod change;
 mod show;
 

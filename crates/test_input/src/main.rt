@@ -1,4 +1,6 @@
 // Reads cases from standard input, each the count of its bytes in 3 bytes and then the bytes, and writes what is read in each: the call, a line, and the new, a line.
+#![tactic(auto)]
+
 mod kinds;
 mod messages;
 mod news;

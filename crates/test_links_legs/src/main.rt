@@ -4,6 +4,8 @@
 // Legs: Dial LINK CLOCK RESENDS · Answer LINK CLOCK · Resent PLACE CLOCK · Sent PLACE · Unsent PLACE · Gone LINK ·
 // Count (all; the answers) · Find LINK · Times PLACE (lease; deadline; whether a resend is to come and when; the poll) · Kind PLACE (whether it names a peer, is an answer; its epoch; whether it was sent, replaces) ·
 // Wake · Overdue CLOCK · Pending FROM CLOCK (the first resend that is due) · Yields PAIR MESSAGE (the leg that yields its msg2)
+#![tactic(auto)]
+
 mod leg_changes;
 mod leg_shows;
 mod link_steps;

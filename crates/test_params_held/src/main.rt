@@ -2,6 +2,8 @@
 // node_addr: nodes A B (whether they are the same; whether the first is before) · pairs TRANSPORT BYTE TRANSPORT BYTE (whether they are the same)
 // params: settings (by default) · in_range COUNTED REPLAYS · factor EXPONENT · backoff EXPONENT BASE CAP · deadline CLOCK SPAN · resend CLOCK EXPONENT BASE · age CLOCK WAS · younger SPAN CLOCK WAS
 // held: Insert PEER LINK · Hear PEER CLOCK BYTE (whether the pair was the current one) · Restart PEER EPOCH · Drop PEER · Count · Find PEER · Peer PLACE BYTE (heard; dated; the last reading; the epoch; whether the pair is the current one)
+#![tactic(auto)]
+
 mod held_steps;
 mod plain;
 mod times;

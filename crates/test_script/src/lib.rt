@@ -1,6 +1,8 @@
 // What the programs share that run a module on chosen values: the steps of a script, values told apart by a number, the words of an answer.
 // A step is a line: a word, of which the first letter counts, and up to five decimal numbers, each behind one space; a number that is not there is 0, and what follows them is not read.
 // A program writes each line as it is, and behind it the words of its answer.
+#![tactic(auto)]
+
 pub mod show;
 pub mod values;
 
