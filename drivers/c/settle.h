@@ -26,7 +26,6 @@ extern "C" {
 
 #define SETTLE_TABLE_SIZE 45478 /* bytes of a table */
 #define SETTLE_OUT_SIZE 10240   /* bytes of buffer that are enough for every call; fewer are refused */
-#define SETTLE_PENDING 24       /* answers that may wait under the default settings */
 
 /* Refusals. A refused call has changed no byte of table and buffer, and its lease remains the driver's. */
 enum settle_number {
@@ -50,10 +49,7 @@ typedef struct {
 /* How many bytes a table has: SETTLE_TABLE_SIZE. */
 size_t settle_table_size(void);
 
-/* Makes a table of the lent bytes, whatever they held. Refused with SETTLE_SETTINGS or SETTLE_RECORD, it has changed nothing.
- *
- * A record of form 0 takes the default settings (docs/RECORDS.md): with SETTLE_PENDING answers waiting, no msg1 or replacement gets
- * another, it is rejected for Full. Form 0 had 1,000 there, which 32 links never reach; who wants that sends form 1. */
+/* Makes a table of the lent bytes, whatever they held. Refused with SETTLE_SETTINGS or SETTLE_RECORD, it has changed nothing. */
 uint8_t settle_new(uint8_t *table, size_t table_len, const uint8_t *record, size_t record_len);
 
 /* Answers one call. */

@@ -6,7 +6,6 @@ use crate::departure::{self, ALL, Departure, Met};
 use crate::dump;
 use crate::generate;
 use crate::profile::NAMES;
-use crate::proto::settle::gates::Source;
 use crate::proto::settle::output::{Build, Output};
 use crate::tape::{self, Step, Tape};
 use crate::write::{denial_code, source_code, transition_code, why_code};
@@ -27,10 +26,6 @@ const WHYS: [&str; 9] = [
 const SOURCES: [&str; 5] = ["NotHeld", "Restart", "Replacement", "OwnMsg2", "RekeyMsg2"];
 const DENIALS: [&str; 7] =
     ["Full", "Unheard", "Heard", "Dampened", "Replayed", "ReplayFull", "Silent"];
-
-fn source_name(source: Option<Source>) -> &'static str {
-    source.map_or("nobody", |s| SOURCES[usize::from(source_code(s))])
-}
 
 #[derive(Default)]
 struct Counts(BTreeMap<String, u64>);
@@ -74,9 +69,6 @@ impl Counts {
         all.extend(rows("reject NotHeld", &["Full", "Silent"]));
         all.extend(rows("reject Restart", &DENIALS[..6]));
         all.extend(rows("reject Replacement", &DENIALS));
-        all.extend(rows("Pending24 msg1", &["NotHeld", "Restart"]));
-        all.extend(rows("Pending24 replacement", &["NotHeld", "Replacement"]));
-        all.extend(rows("Pending24 arrived", &["nobody"]));
         all.extend(rows("SilentFirst", &["msg1 NotHeld", "replacement NotHeld", "replacement Replacement"]));
         all.extend(["arrived", "msg1"].iter().flat_map(|c| rows(&format!("NewestLink {c}"), &["2", "3", "4 or more"])));
         all.extend(rows("build", &["Fresh", "FromCarry"]));
@@ -111,11 +103,10 @@ impl Counts {
     /// writes otherwise, and whether it leaves other tables.
     fn beside(&mut self, d: Departure, bytes: &[u8]) {
         self.add(format!("{d:?} tapes"), 1);
-        let dumps = || tape::tables(bytes, dump::contents);
+        let dumps = || tape::tables(bytes, dump::dump);
         let outputs = tape::run(bytes) != departure::without(&[d], || tape::run(bytes));
         let tables = dumps() != departure::without(&[d], dumps);
-        let kept = matches!(d, Departure::NewestLink | Departure::SilentFirst);
-        assert!(!kept || !tables, "neither a stored Answer nor a Reject's reason alters the table");
+        assert!(d == Departure::LastReading || !tables, "neither Full nor Silent nor a stored Answer alters the table");
         self.add(format!("{d:?} tapes, other outputs"), outputs.into());
         self.add(format!("{d:?} tapes, other tables"), tables.into());
     }
@@ -129,7 +120,8 @@ impl Counts {
                 if outputs.is_empty() {
                     self.add(format!("silent {name}"), 1);
                 }
-                let (older, past) = (s.met.of(Departure::NewestLink), s.met.of(Departure::LastReading));
+                let (silent, past) = (s.met.of(Departure::SilentFirst), s.met.of(Departure::LastReading));
+                let older = s.met.of(Departure::NewestLink);
                 if older > 0 {
                     let links = if older > 2 { "4 or more".into() } else { (older + 1).to_string() };
                     self.add(format!("NewestLink {name} {links}"), 1);
@@ -138,8 +130,9 @@ impl Counts {
                     self.add(format!("LastReading {name}"), past);
                 }
                 for o in outputs {
-                    if let Output::Reject { source, .. } = o {
-                        self.rejected(s, name, *source);
+                    if let (Output::Reject { source: Some(by), .. }, true) = (o, silent > 0) {
+                        let by = SOURCES[usize::from(source_code(*by))];
+                        self.add(format!("SilentFirst {name} {by}"), 1);
                     }
                     self.output(o);
                 }
@@ -149,15 +142,6 @@ impl Counts {
                 if let (Some(name), true) = (kind, *number != 3) {
                     self.add(format!("refusal {number} {name}"), 1);
                 }
-            }
-        }
-    }
-
-    /// The departures that decided a Reject.
-    fn rejected(&mut self, s: &Step, name: &str, source: Option<Source>) {
-        for d in [Departure::SilentFirst, Departure::Pending24] {
-            if s.met.of(d) > 0 {
-                self.add(format!("{d:?} {name} {}", source_name(source)), 1);
             }
         }
     }
@@ -194,7 +178,7 @@ impl Counts {
             Output::Free { .. } => 11,
             Output::Retry { .. } => 12,
             Output::Reject { source, why, .. } => {
-                let by = source_name(*source);
+                let by = source.map_or("nobody", |s| SOURCES[usize::from(source_code(s))]);
                 let why = DENIALS[usize::from(denial_code(*why))];
                 self.add(format!("reject {by} {why}"), 1);
                 13

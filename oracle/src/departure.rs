@@ -6,9 +6,6 @@ use std::sync::atomic::{AtomicBool, AtomicU64, Ordering::Relaxed};
 
 #[derive(Clone, Copy, Debug, PartialEq, Eq)]
 pub enum Departure {
-    /// Paper 2: by default 24 answers may wait, where the reference says
-    /// 1,000. It decides where a call is told Full.
-    Pending24,
     /// Paper 5: of the links that yield a stored msg2 the newest answers. It
     /// decides once for each older one.
     NewestLink,
@@ -18,8 +15,7 @@ pub enum Departure {
     LastReading,
 }
 
-pub const ALL: [Departure; 4] =
-    [Departure::Pending24, Departure::NewestLink, Departure::SilentFirst, Departure::LastReading];
+pub const ALL: [Departure; 3] = [Departure::NewestLink, Departure::SilentFirst, Departure::LastReading];
 
 static LEFT_OUT: [AtomicBool; ALL.len()] = [const { AtomicBool::new(false) }; ALL.len()];
 static MET: [AtomicU64; ALL.len()] = [const { AtomicU64::new(0) }; ALL.len()];
@@ -27,18 +23,8 @@ static MET: [AtomicU64; ALL.len()] = [const { AtomicU64::new(0) }; ALL.len()];
 impl Departure {
     /// Here it decides: whether it is taken.
     pub fn taken(self) -> bool {
-        self.decides();
-        self.holds()
-    }
-
-    /// Whether it is not left out.
-    pub fn holds(self) -> bool {
-        !LEFT_OUT[self as usize].load(Relaxed)
-    }
-
-    /// Here it decided.
-    pub fn decides(self) {
         MET[self as usize].fetch_add(1, Relaxed);
+        !LEFT_OUT[self as usize].load(Relaxed)
     }
 }
 

@@ -26,17 +26,10 @@ use crate::write::{Writer, count};
 use crate::identity::NodeAddr;
 
 pub fn dump(node: &Node) -> Vec<u8> {
-    let mut w = Writer { bytes: Vec::new(), first: node.first };
-    w.peer(node.table.me());
-    settings(&mut w, node.table.params());
-    w.run(&contents(node));
-    w.bytes
-}
-
-/// What follows the settings.
-pub fn contents(node: &Node) -> Vec<u8> {
     let t = &node.table;
     let mut w = Writer { bytes: Vec::new(), first: node.first };
+    w.peer(t.me());
+    settings(&mut w, t.params());
     w.link(LinkNo(t.links().opened()));
     w.byte(count(t.links().recs().len()));
     for (no, rec) in t.links().recs() {

@@ -81,7 +81,7 @@ impl Generator {
             None => self.r.pick(&[0, 1, 1, 2, 1000, u64::from(u32::MAX), 1 << 63]).unwrap_or(0),
         };
         w.peer(me).u64(first);
-        if matches!(self.profile.settings, Settings::Default | Settings::Waiting) {
+        if self.profile.settings == Settings::Default {
             w.byte(0);
         } else {
             w.byte(1);
@@ -110,12 +110,10 @@ impl Generator {
             Settings::Extreme => (self.end32(), self.end32()),
             Settings::Gates => (self.r.below(3) as u32, self.r.below(5) as u32),
             Settings::Reconnects => (1000, self.r.below(5) as u32),
-            Settings::Pending => (3, 5),
             _ => (self.r.below(4) as u32, self.r.below(5) as u32),
         };
         let (replays, counted) = match kind {
             Settings::Extreme if self.r.chance(30) => self.limits(),
-            Settings::Pending => (8, 8),
             _ if self.r.chance(3) => self.limits(),
             _ => (self.r.below(9).min(self.r.below(9)), 1 + self.r.below(8).min(self.r.below(8))),
         };
@@ -124,7 +122,6 @@ impl Generator {
             Settings::Silences => 1000,
             Settings::Crowded => 1 + self.r.below(4),
             Settings::Reconnects => self.r.pick(&[1000, 1000, 5, 3]).unwrap_or(0),
-            Settings::Pending => self.r.pick(&[1000, 1000, 23, 25, 31, 32, 33]).unwrap_or(0),
             Settings::Extreme => self.r.pick(&[0, 1, 2, 3, u64::MAX]).unwrap_or(0),
             Settings::Gates => self.r.pick(&[2, 5, 1000, 1000]).unwrap_or(0),
             _ => self.r.pick(&[0, 1, 2, 3, 3, 1000, 1000, u64::MAX]).unwrap_or(0),
@@ -154,7 +151,6 @@ impl Generator {
             Settings::Crowded if i == 2 => 100 + self.r.below(1000),
             Settings::Crowded if i == 3 => 1 << 20,
             Settings::Crowded | Settings::Reconnects if i == 5 => 1 << 12,
-            Settings::Pending => [1, 15, 30, 600, 600, 30, 1][i] * 1_000_000_000,
             Settings::Gates if i == 2 => 2 + self.r.below(30),
             Settings::Gates if i == 3 => self.r.below(200),
             Settings::Gates if i == 4 => self.r.below(80),
@@ -203,9 +199,6 @@ impl Generator {
                     Settings::Silences => plan::long_silence(&mut self.r),
                     Settings::Crowded => plan::crowd(node.table.params(), &mut self.r),
                     Settings::Reconnects => plan::reconnects(node.table.params(), &mut self.r),
-                    Settings::Waiting | Settings::Pending => {
-                        plan::waiting(node.table.params(), room(node), &mut self.r)
-                    }
                     _ => plan::draw(node.table.params(), &mut self.r),
                 }
                 .into();
@@ -241,9 +234,6 @@ impl Generator {
             self.about = self.newcomer();
             return None;
         }
-        if let Item::Any = item {
-            return Some(self.call());
-        }
         let (mut w, about) = (self.begin(), self.about);
         let kind = match item {
             Item::Dial => {
@@ -261,13 +251,14 @@ impl Generator {
                 w.link(self.last_link()).u64(self.epoch_planned + u64::from(next)).pair(&from);
                 8
             }
-            Item::Other | Item::Newcomer | Item::Former => {
-                let peer = match item {
-                    Item::Other => peer_no(OTHERS + u64::from(self.made % 8)),
-                    Item::Newcomer => self.newcomer(),
-                    _ => about,
-                };
-                self.planned_hello(&mut w, peer, self.epoch_planned, true);
+            Item::Other => {
+                let other = peer_no(OTHERS + u64::from(self.made % 8));
+                self.planned_hello(&mut w, other, self.epoch_planned, true);
+                w.flag(self.r.chance(50));
+                4
+            }
+            Item::Former => {
+                self.planned_hello(&mut w, about, self.epoch_planned, true);
                 w.flag(self.r.chance(50));
                 4
             }
@@ -729,12 +720,6 @@ fn finish(kind: u8, w: Writer) -> Vec<u8> {
     let mut out = Vec::new();
     framed(kind, &w.bytes, &mut out);
     out
-}
-
-/// How many answers more may wait; with no limit in reach, up to one above the
-/// number of links.
-fn room(n: &Node) -> usize {
-    n.table.params().pending.min(33).saturating_sub(n.table.legs().answering())
 }
 
 #[derive(Clone, Copy, PartialEq, Eq)]

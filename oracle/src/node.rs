@@ -27,7 +27,6 @@ const REPLAYS: usize = 8;
 pub struct Node {
     pub table: Table<Clock>,
     pub first: u64,
-    by_default: bool,
     /// Pairs that Release or Close listed although a live record uses them
     /// when the call ends; document 01 would leave them out.
     pub overlisted: usize,
@@ -45,7 +44,6 @@ impl Node {
         Ok(Node {
             table: Table::new(n.me, n.params),
             first: n.first,
-            by_default: n.by_default,
             overlisted: 0,
         })
     }
@@ -74,7 +72,6 @@ impl Node {
         if let Some(epoch) = epoch {
             self.silent_first(epoch, now, &mut outputs);
         }
-        self.pending_24(&outputs);
         if !dial && let Some(peer) = asks && self.enters(peer, &outputs) {
             self.room(peer)?;
         }
@@ -147,15 +144,6 @@ impl Node {
             {
                 *why = Denial::Gate(Refusal::Silent);
             }
-        }
-    }
-
-    /// By default no call is told Full but by the lower limit: the reference's
-    /// own is above the number of links.
-    fn pending_24(&self, outputs: &[Output]) {
-        let full = |o: &Output| matches!(o, Output::Reject { why: Denial::Full, .. });
-        if self.by_default && outputs.iter().any(full) {
-            Departure::Pending24.decides();
         }
     }
 

@@ -1,7 +1,6 @@
 //! Runs of calls about one peer that lead up to a judgement of the gates or
 //! through a dial's resends, with the clock on, just before or just after the
-//! time that decides; runs of peers that come from one pair; and runs of peers
-//! whose answers wait up to the limit.
+//! time that decides; and runs of peers that come from one pair.
 
 use crate::dump::nanos;
 use crate::proto::settle::params::Params;
@@ -52,11 +51,6 @@ pub enum Item {
     Leave,
     /// A msg1 arrives from the planned pair, and may then be read.
     Ask { read: bool },
-    /// A msg1 of a peer that is not held and has no leg if there is one,
-    /// whatever the run is about.
-    Newcomer,
-    /// Any call.
-    Any,
 }
 
 /// Holders end unheard until the factor of the refusal no longer fits.
@@ -128,42 +122,6 @@ pub fn reconnects(p: &Params, r: &mut Random) -> Vec<Item> {
         items.extend([Item::Wait(nanos(p.handshake)), Item::Poll]);
     }
     items
-}
-
-/// Answers to newcomers wait until `room` is taken, one fewer or one more, and
-/// then all ask: the peer, which is held, silenced, dialed, unknown or has an
-/// answer of its own that was sent; newcomers; whoever is at a pair without one.
-/// Then there is room again: an answer is sent, or all are reaped.
-pub fn waiting(p: &Params, room: usize, r: &mut Random) -> Vec<Item> {
-    let mut items = match r.below(6) {
-        0 => vec![new_peer(r, 100), Item::Sent],
-        1 => silenced(p, r),
-        2 => vec![Item::Dial, Item::OwnMsg2 { next: false }],
-        3 => vec![Item::Former, Item::Dial, Item::OwnMsg2 { next: false }, Item::Answered],
-        4 => vec![Item::Dial],
-        _ => Vec::new(),
-    };
-    items.extend(vec![Item::Newcomer; (room + r.index(2)).saturating_sub(r.index(3))]);
-    for _ in 0..3 + r.below(4) {
-        items.push(at_limit(r));
-    }
-    items.extend(if r.chance(70) { vec![Item::Sent] } else { vec![Item::Wait(nanos(p.handshake)), Item::Poll] });
-    items.extend([Item::Newcomer, at_limit(r), at_limit(r)]);
-    items
-}
-
-/// Holders end unheard until msg1s are refused.
-fn silenced(p: &Params, r: &mut Random) -> Vec<Item> {
-    (0..p.silent.clamp(1, 4)).flat_map(|_| [Item::Over, new_peer(r, 100), Item::Sent, Item::Remove]).collect()
-}
-
-fn at_limit(r: &mut Random) -> Item {
-    match r.below(8) {
-        0..=1 => Item::Newcomer,
-        2..=4 => Item::Hello { replacement: r.chance(50), restart: r.chance(50), fresh: r.chance(60) },
-        5..=6 => ask(r),
-        _ => Item::Any,
-    }
 }
 
 fn ask(r: &mut Random) -> Item {

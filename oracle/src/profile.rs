@@ -3,9 +3,9 @@
 
 use crate::random::Random;
 
-pub const NAMES: [&str; 12] = [
+pub const NAMES: [&str; 11] = [
     "few", "full", "gates", "silences", "extreme", "last", "damaged", "mixed", "soak", "crowded",
-    "reconnects", "waiting",
+    "reconnects",
 ];
 
 #[derive(Clone, Copy, PartialEq, Eq)]
@@ -25,10 +25,6 @@ pub enum Settings {
     Crowded,
     /// No refusals, answers that wait long.
     Reconnects,
-    /// The default ones, whose limit of answers is filled.
-    Waiting,
-    /// The same by form 1, with another limit.
-    Pending,
 }
 
 #[derive(Clone, Copy, PartialEq, Eq)]
@@ -138,7 +134,6 @@ pub fn named(name: &str, r: &mut Random) -> Option<Profile> {
             weights: AGAIN,
             ..even
         },
-        "waiting" => waiting(r, even),
         _ => return None,
     })
 }
@@ -187,22 +182,6 @@ fn soak(r: &mut Random, even: Profile) -> Profile {
     let base = if r.chance(60) { gates(r, even) } else { Profile { settings: either(r), ..even } };
     let bits = r.below(38);
     Profile { clock_left: Some(r.below(1 << bits)), ..base }
-}
-
-/// Answers that wait up to the limit: by default, or with another limit.
-fn waiting(r: &mut Random, even: Profile) -> Profile {
-    Profile {
-        peers: 60,
-        digests: 30,
-        epochs: 2,
-        fresh: 60,
-        plan: 70,
-        messages: 30,
-        calls: 160,
-        settings: if r.chance(70) { Settings::Waiting } else { Settings::Pending },
-        pace: Pace::Slow,
-        ..even
-    }
 }
 
 /// One of the others, with some of another's ways.

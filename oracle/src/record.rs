@@ -1,6 +1,5 @@
 //! Records as document 01 lays them out: version, kind, fields.
 
-use crate::departure::Departure;
 use crate::identity::NodeAddr;
 use crate::proto::fmp::EphemeralDigest;
 use crate::proto::rekey::IndexLease;
@@ -16,8 +15,6 @@ pub const VERSION: u8 = 1;
 pub const NEW: u8 = 17;
 pub const ADDRESS: usize = 48;
 pub const MESSAGE: usize = 128;
-/// How many answers may wait by default (document 02, paper 2).
-const PENDING: usize = 24;
 
 pub enum Call {
     Dial(Dial),
@@ -42,20 +39,11 @@ pub struct New {
     pub me: NodeAddr,
     pub first: u64,
     pub params: Params,
-    /// Form 0: the settings are the default ones.
-    pub by_default: bool,
 }
 
 pub enum Record {
     New(New),
     Call(Clock, Call),
-}
-
-/// The settings of form 0: the reference's own, but for pending.
-pub fn default_settings() -> Params {
-    let own = Params::default();
-    let pending = if Departure::Pending24.holds() { PENDING } else { own.pending };
-    Params { pending, ..own }
 }
 
 /// The record that `bytes` (what follows the length) are, if they are one.
@@ -109,13 +97,15 @@ impl Reader<'_> {
     }
 
     fn new_table(&mut self) -> Option<New> {
-        let (me, first, form) = (self.peer()?, self.u64()?, self.byte()?);
-        let params = match form {
-            0 => default_settings(),
-            1 => self.params()?,
-            _ => return None,
-        };
-        Some(New { me, first, params, by_default: form == 0 })
+        Some(New {
+            me: self.peer()?,
+            first: self.u64()?,
+            params: match self.byte()? {
+                0 => Params::default(),
+                1 => self.params()?,
+                _ => return None,
+            },
+        })
     }
 
     fn params(&mut self) -> Option<Params> {

@@ -8,8 +8,8 @@ use crate::tape;
 
 /// 30 tapes of 30 calls from each profile, and longer ones where 30 calls do
 /// not reach: the limits of a full table, silences of a held peer, silences
-/// whose factor no longer fits, silences while Full holds, several answers
-/// stored at one pair, and answers that wait up to the limit.
+/// whose factor no longer fits, silences while Full holds, and several answers
+/// stored at one pair.
 pub fn set() -> Option<Vec<u8>> {
     let mut out = Vec::new();
     for name in NAMES {
@@ -23,7 +23,7 @@ pub fn set() -> Option<Vec<u8>> {
     for seed in 30..50 {
         add(&mut out, &generate::tape("gates", seed, None)?);
     }
-    for name in ["silences", "crowded", "reconnects", "waiting"] {
+    for name in ["silences", "crowded", "reconnects"] {
         for seed in 0..6 {
             add(&mut out, &generate::tape(name, seed, None)?);
         }

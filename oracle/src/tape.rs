@@ -3,7 +3,7 @@
 //! `run` and `tables` also run each tape without the departures of document 02:
 //! where none decides, the reference says the same by itself.
 
-use crate::departure::{self, ALL, Departure, Met};
+use crate::departure::{self, ALL, Met};
 use crate::node::{Node, RECORD};
 use crate::proto::settle::output::Output;
 use crate::write;
@@ -92,23 +92,21 @@ pub fn steps(bytes: &[u8]) -> (Tape, Vec<Step>) {
 }
 
 /// What `told` makes of the table after each record, a cut last one too, one
-/// behind another. Nothing where there is no table. A table has its settings,
-/// so that the pending of form 0 shows in it whether or not it decides.
+/// behind another. Nothing where there is no table.
 pub fn tables(bytes: &[u8], told: fn(&Node) -> Vec<u8>) -> Vec<u8> {
-    let hidden = [Departure::NewestLink, Departure::SilentFirst, Departure::LastReading];
-    settled(bytes, &hidden, |bytes| left(bytes, told))
+    settled(bytes, |bytes| left(bytes, told))
 }
 
 /// What the program writes.
 pub fn run(bytes: &[u8]) -> Vec<u8> {
-    settled(bytes, &ALL, written)
+    settled(bytes, written)
 }
 
 /// What `told` makes of a tape.
-fn settled(bytes: &[u8], which: &[Departure], told: impl Fn(&[u8]) -> Vec<u8>) -> Vec<u8> {
+fn settled(bytes: &[u8], told: impl Fn(&[u8]) -> Vec<u8>) -> Vec<u8> {
     let out = told(bytes);
     let plain = steps(bytes).1.iter().all(|s| s.met == Met::default());
-    let same = !plain || out == departure::without(which, || told(bytes));
+    let same = !plain || out == departure::without(&ALL, || told(bytes));
     assert!(same, "where no departure decides, the reference agrees");
     out
 }

@@ -43,7 +43,7 @@ pub fn default() -> Params
         handshake: 30000000000,
         resend: 1000000000,
         resends: 5,
-        pending: 24,
+        pending: 1000,
     }
 }
 

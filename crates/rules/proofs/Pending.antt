@@ -1,4 +1,4 @@
--- How many answers may wait (document 02, paper 2): as many as new was told, since no call changes the settings. More than there can be links are never reached.
+-- How many answers may wait: as many as new was told, since no call changes the settings. More than there can be links are never reached.
 use mathlib.Core.Path.{◌≡◌, refl, ap, ◌∙◌}
 use mathlib.Core.Bool.{false}
 use mathlib.Core.List.{List}

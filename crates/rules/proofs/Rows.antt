@@ -49,28 +49,19 @@ pub outs : List Timed → List Output
 unfolding after from
 outs s = (after s (from 1)).outs
 
--- what the last call writes, after those of the list, from this table
-pub says_from : Table → List Timed → Timed → List Output
-unfolding after
-says_from t s x = (step x.now x.call (after s t).table).step.outs
-
+-- what the last call writes, after those of the list
 pub says : List Timed → Timed → List Output
-unfolding says_from from
-says = says_from (from 1)
+unfolding after from
+says s x = (step x.now x.call (after s (from 1)).table).step.outs
 
--- the numbers of the calls of the second list, after those of the first, from this table
-pub numbers_from : Table → List Timed → List Timed → List ℕ
-unfolding after
-numbers_from t s u = go u (after s t).table
+-- the numbers of the calls of the second list, after those of the first; links from this number on
+pub numbers : ℕ → List Timed → List Timed → List ℕ
+unfolding after from
+numbers first s u = go u (after s (from first)).table
   where
     go : List Timed → Table → List ℕ
-    go [] v = []
-    go (x ∷ w) v = (step x.now x.call v).number ∷ go w (step x.now x.call v).step.table
-
--- links from this number on
-pub numbers : ℕ → List Timed → List Timed → List ℕ
-unfolding numbers_from from
-numbers first = numbers_from (from first)
+    go [] t = []
+    go (x ∷ v) t = (step x.now x.call t).number ∷ go v (step x.now x.call t).step.table
 
 -- the program on a tape
 pub writes_of : Bytes → Bytes
@@ -230,31 +221,12 @@ silents (suc n) k = crowd_msg1 (suc n) ∷ on 0 (Call.Sent k) ∷ on 0 (Call.Rem
 abbrev pub path_to : ℕ → Proven → Timed
 path_to n v = on 0 (Call.Path 1 (record { transport = n; addr = [] }) v)
 
--- ---- for Full
-
--- a node that holds nothing, where so many answers may wait
-pub from_pending : ℕ → Table
-unfolding new_table limits
-from_pending n = new_table (replicate 16 0) 1 (limits 8 8 n)
-
-pub says_pending : ℕ → List Timed → Timed → List Output
-unfolding says_from from_pending
-says_pending n = says_from (from_pending n)
-
-pub numbers_pending : ℕ → List Timed → List Timed → List ℕ
-unfolding numbers_from from_pending
-numbers_pending n = numbers_from (from_pending n)
-
--- a msg1 from each of the peers n down to 1, whose answers wait
-abbrev pub waiting : ℕ → List Timed
-waiting zero = []
-waiting (suc n) = crowd_msg1 (suc n) ∷ waiting n
-
--- the Reject of a peer not held that is told Full
-abbrev pub full_for : ℕ → List Output
-full_for n = Reject (some (crowd_peer n, Source.NotHeld)) Full ∷ Free n ∷ []
-
 -- ---- for Silent before Full
+
+-- what the last call writes, after those of the list, where one answer may wait
+pub says_pending1 : List Timed → Timed → List Output
+unfolding after new_table limits
+says_pending1 s x = (step x.now x.call (after s (new_table (replicate 16 0) 1 (limits 8 8 1))).table).step.outs
 
 -- the peer is silenced for 30 s at epoch 5, and an answer to another waits
 abbrev pub silent_full : List Timed
@@ -299,25 +271,13 @@ pub record Rows : Type 0 where
   pub horizon_last_on : expired default (last_reading - 1) ended_last ≡ false
   pub horizon_last_over : expired default last_reading ended_last ≡ true
   -- Silent before Full: a msg1 from a peer not held, and a replacement.
-  pub silent_full_lem : says_pending 1 silent_full (msg1s 29_999_999_999 5 4) ≡ rejected Source.NotHeld Silent 4
-  pub silent_full_replacement : says_pending 1 (dialed_full 5) (on 0 (Call.Replacement (hello1 them B 5 4))) ≡ rejected Source.Replacement Silent 4
+  pub silent_full_lem : says_pending1 silent_full (msg1s 29_999_999_999 5 4) ≡ rejected Source.NotHeld Silent 4
+  pub silent_full_replacement : says_pending1 (dialed_full 5) (on 0 (Call.Replacement (hello1 them B 5 4))) ≡ rejected Source.Replacement Silent 4
   -- Full where silence does not hold (until = now; another epoch), and for a Restart and arrived.
-  pub full_over : says_pending 1 silent_full (msg1s (seconds 30) 5 4) ≡ rejected_full Source.NotHeld
-  pub full_epoch : says_pending 1 silent_full (msg1s 0 6 4) ≡ rejected_full Source.NotHeld
-  pub full_restart : says_pending 1 (dialed_full 6) (msg1s 0 5 4) ≡ rejected_full Source.Restart
-  pub full_arrived : says_pending 1 silent_full (on 0 (Call.Arrived A (1 ∷ []))) ≡ Reject none Full ∷ []
-  -- By default 24 answers may wait: a msg1 of a peer not held is answered with 23 waiting, and told Full with 24; so is the arrival of one. Silent comes first.
-  pub waiting_23 : says (waiting 23) (crowd_msg1 24) ≡ Output.Answer 24 false (2 ∷ []) ∷ []
-  pub waiting_24 : says (waiting 24) (crowd_msg1 25) ≡ full_for 25
-  pub waiting_arrived : says (waiting 24) (on 0 (Call.Arrived A (1 ∷ []))) ≡ Reject none Full ∷ []
-  pub waiting_silent : says (ending 0 1 ++ ending 0 2 ++ ending 0 3 ++ waiting 24) (msg1s 0 5 4) ≡ rejected Source.NotHeld Silent 4
-  -- Once one of them is held there is room again.
-  pub waiting_sent : says (waiting 24 ++ (on 0 (Call.Sent 1) ∷ [])) (crowd_msg1 25) ≡ Output.Answer 25 false (2 ∷ []) ∷ []
-  -- At 32 links, 24 answers beside eight dials, it is Full by default. With 1,000, by form 1, it is refused Links there, and answered below 32 links.
-  pub waiting_links : says (crowd 8 ++ waiting 24) (crowd_msg1 25) ≡ full_for 25
-  pub waiting_links_1000 : numbers_pending 1000 (crowd 8 ++ waiting 24) (crowd_msg1 25 ∷ []) ≡ 5 ∷ []
-  pub waiting_32_1000 : numbers_pending 1000 (waiting 32) (crowd_msg1 33 ∷ []) ≡ 5 ∷ []
-  pub waiting_24_1000 : says_pending 1000 (waiting 24) (crowd_msg1 25) ≡ Output.Answer 25 false (2 ∷ []) ∷ []
+  pub full_over : says_pending1 silent_full (msg1s (seconds 30) 5 4) ≡ rejected_full Source.NotHeld
+  pub full_epoch : says_pending1 silent_full (msg1s 0 6 4) ≡ rejected_full Source.NotHeld
+  pub full_restart : says_pending1 (dialed_full 6) (msg1s 0 5 4) ≡ rejected_full Source.Restart
+  pub full_arrived : says_pending1 silent_full (on 0 (Call.Arrived A (1 ∷ []))) ≡ Reject none Full ∷ []
   -- Retiring a leg without paths whose setup another leg shares closes nothing.
   pub shared_setup : says (dials 0 them 9 ∷ dials 0 (replicate 16 0x23) 10 ∷ []) (on 0 (Call.Abandon 1)) ≡ Free 9 ∷ Retire 1 [] ∷ []
   -- The worked tape: new; dial; abandon. Done; Opened 1, Done; Free 9, Retire 1 closing the pair, Done.
@@ -331,10 +291,7 @@ pub record Rows : Type 0 where
   pub number_1 : new (spell_new 0 (replicate 16 0) 1 (some (limits 8 0 1000))) ≡ Refused 1
   pub number_1_counted : new (spell_new 0 (replicate 16 0) 1 (some (limits 8 9 1000))) ≡ Refused 1
   pub number_1_replays : new (spell_new 0 (replicate 16 0) 1 (some (limits 9 8 1000))) ≡ Refused 1
-  -- form 1 makes what it says; form 0 the default, which is 8, 8 and 24
-  pub number_none : new (spell_new 0 (replicate 16 0) 1 (some (limits 8 8 1000))) ≡ Made (from_pending 1000)
-  pub number_none_default : new (spell_new 0 (replicate 16 0) 1 none) ≡ Made (from 1)
-  pub default_is : from 1 ≡ from_pending 24
+  pub number_none : new (spell_new 0 (replicate 16 0) 1 (some (limits 8 8 1000))) ≡ Made (from 1)
   -- 2 comes before 3: an output buffer under 10,240 bytes, for any record
   pub number_2 : (call [] 10_239 (from 1)).number ≡ 2
   pub number_3 : (call [] 10_240 (from 1)).number ≡ 3
@@ -371,7 +328,7 @@ pub record Rows : Type 0 where
   pub heard_clears_replays : says (holds 0 5 1 1 ++ heard_then_removed 0 ++ holds 0 5 2 2) (msg1s (seconds 1) 6 1) ≡ passed 2
 
 pub rows : Rows
-unfolding outs says says_pending silences numbers numbers_pending writes_of limits
+unfolding outs says says_pending1 silences numbers writes_of limits
 rows = record {
   backoff_31 = refl;
   backoff_32 = refl;
@@ -397,15 +354,6 @@ rows = record {
   full_epoch = refl;
   full_restart = refl;
   full_arrived = refl;
-  waiting_23 = refl;
-  waiting_24 = refl;
-  waiting_arrived = refl;
-  waiting_silent = refl;
-  waiting_sent = refl;
-  waiting_links = refl;
-  waiting_links_1000 = refl;
-  waiting_32_1000 = refl;
-  waiting_24_1000 = refl;
   shared_setup = refl;
   tape = refl;
   tape_second_new = refl;
@@ -416,8 +364,6 @@ rows = record {
   number_1_counted = refl;
   number_1_replays = refl;
   number_none = refl;
-  number_none_default = refl;
-  default_is = refl;
   number_2 = refl;
   number_3 = refl;
   number_3_new = refl;

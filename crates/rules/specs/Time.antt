@@ -21,7 +21,7 @@ pub record Params : Type 0 where
 abbrev pub seconds : ℕ → ℕ
 seconds n = n * 1_000_000_000
 
--- `Params::default`, but for pending, which is 1,000 there (document 02, paper 2)
+-- `Params::default`
 unfoldable pub default : Params
 default = record {
   unheard = seconds 1;
@@ -35,7 +35,7 @@ default = record {
   handshake = seconds 30;
   resend = seconds 1;
   resends = 5;
-  pending = 24;
+  pending = 1000;
 }
 
 -- refusal 1: counted 0 or above 8, or replays above 8

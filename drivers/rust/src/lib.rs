@@ -135,8 +135,7 @@ pub struct Table {
 }
 
 impl Table {
-    /// A node that holds nothing. `settings` of `None` takes the default ones, [`Settings::default`]: 24 answers may wait. With 1,000, as
-    /// was the default before, that is `Some(&Settings { pending: 1_000, ..Settings::default() })`.
+    /// A node that holds nothing. `settings` of `None` takes the default ones.
     pub fn new(me: Peer, first_link: u64, settings: Option<&Settings>) -> Result<Table, Refusal> {
         Table::from_record(record::new(me, first_link, settings).bytes())
     }

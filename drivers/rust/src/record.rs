@@ -57,7 +57,7 @@ pub enum Call<'a> {
     Wake,
 }
 
-/// The settings of form 1; spans in nanoseconds. The default ones, which form 0 takes, are [`Settings::default`].
+/// The settings of form 1; spans in nanoseconds.
 #[derive(Clone, Copy, Debug, PartialEq, Eq)]
 pub struct Settings {
     pub unheard: u64,
@@ -71,30 +71,7 @@ pub struct Settings {
     pub resends: u32,
     pub replays: u8,
     pub counted: u8,
-    /// How many answers may wait: with as many waiting no msg1 or replacement gets another, it is rejected for Full. More than 32, the most
-    /// links, never wait.
     pub pending: u64,
-}
-
-const SECOND: u64 = 1_000_000_000;
-
-impl Default for Settings {
-    fn default() -> Settings {
-        Settings {
-            unheard: SECOND,
-            interval: 15 * SECOND,
-            silentbase: 30 * SECOND,
-            silentcap: 600 * SECOND,
-            horizon: 600 * SECOND,
-            handshake: 30 * SECOND,
-            resend: SECOND,
-            silent: 3,
-            resends: 5,
-            replays: 8,
-            counted: 8,
-            pending: 24,
-        }
-    }
 }
 
 const ROOM: usize = 400;

@@ -1,5 +1,5 @@
 //! What the wrapper adds: refusals by name, limits, and buffers.
-use settle::{Call, Hello, OUT, Output, Pair, Peer, Reason, Refusal, Settings, Table};
+use settle::{Call, OUT, Output, Pair, Peer, Refusal, Settings, Table};
 
 const PEER: Peer = Peer([2; 16]);
 const NORTH: Pair<'static> = Pair { transport: 7, addr: b"north" };
@@ -25,35 +25,6 @@ fn settings(counted: u8) -> Settings {
 fn settings_out_of_range() {
     assert!(Table::new(PEER, 0, Some(&settings(8))).is_ok());
     assert_eq!(Table::new(PEER, 0, Some(&settings(9))).err(), Some(Refusal::Settings));
-}
-
-#[test]
-fn no_settings_are_the_default_ones() {
-    let table = |settings| Table::new(PEER, 1, settings).unwrap();
-    assert!(table(None).bytes() == table(Some(&Settings::default())).bytes(), "the tables differ");
-}
-
-/// So many peers send a msg1 each, and no answer is sent: whether the last is told Full, or what refuses one of them.
-fn last_is_full(settings: Option<&Settings>, peers: u8) -> Result<bool, Refusal> {
-    let mut table = Table::new(Peer([0; 16]), 1, settings)?;
-    let mut full = false;
-    for n in 1..=peers {
-        let (peer, from) = (Peer([n; 16]), Pair { transport: n.into(), addr: b"" });
-        let hello = Hello { peer, from, msg1: b"", digest: &[n; 32], epoch: [1; 8], msg2: b"", lease: n.into() };
-        let mut out = [0; OUT];
-        let mut outputs = table.call(0, &Call::Msg1 { hello, reachable: true }, &mut out)?;
-        full = matches!(outputs.next(), Some(Output::Reject { why: Reason::Full, .. }));
-    }
-    Ok(full)
-}
-
-#[test]
-fn by_default_24_answers_may_wait() {
-    assert_eq!(last_is_full(None, 24), Ok(false));
-    assert_eq!(last_is_full(None, 25), Ok(true));
-    let settings = Settings { pending: 1_000, ..Settings::default() };
-    assert_eq!(last_is_full(Some(&settings), 32), Ok(false));
-    assert_eq!(last_is_full(Some(&settings), 33), Err(Refusal::Links));
 }
 
 #[test]

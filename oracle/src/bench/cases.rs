@@ -46,15 +46,6 @@ fn full(links: usize) -> World {
     w
 }
 
-/// Every link is an answer that waits, and no more may.
-fn waiting(links: usize) -> World {
-    let mut w = World::new(Some(Limits { resends: 5, pending: links as u64 }));
-    for i in 0..links {
-        w.answered(STRANGER + 2 + i);
-    }
-    w
-}
-
 /// One of the links is a leg of a stranger, link 1: a dial, or an answer.
 fn leg(links: usize, dial: bool, endless: bool) -> World {
     let mut w = World::new(endless.then_some(Limits { resends: u32::MAX, pending: 1000 }));
@@ -166,7 +157,6 @@ pub const CASES: &[Case] = &[
     case("answer", "msg1: fresh answer, abandon", &[&[2], &[11, 8]], below, answered),
     case("replacement", "replacement: Reject", &[&[13, 11]], held, replaced),
     case("full", "msg1: Reject for Full", &[&[13, 11]], full, unknown),
-    case("full-answers", "msg1: Reject for Full, all links answers", &[&[13, 11]], waiting, unknown),
     case("full-restart", "msg1 (Restart): Reject for Full", &[&[13, 11]], full, restart),
     case("full-replacement", "replacement: Reject for Full", &[&[13, 11]], full, replaced),
     case("sent", "sent on a dial", &[&[]], |n| leg(n, true, true), |w| w.sent(1)),

@@ -117,8 +117,8 @@ fn intro(machine: &str) -> String {
 const KINDS_TEXT: &str = "A row is its calls together: where a call changes the table, the others bring it back. Held links have four paths each, \
 half of them dialed and half answered; peers and paths are picked at random. Where a row opens a link, 32 links are 31 and that one. In the rows \
 of arrived (stored), sent, unsent and the resend one of the links is a leg, the oldest if not said otherwise, in those with \"all legs\" each is a dial in flight; in those of Full \
-an answer waits beside the held links, of which 32 are 31, or, with \"all links answers\", each link is one that waits. The peer \
-that is removed and comes back has no path. Sent is timed with 2^32 - 1 resends in the settings, so that each sets the next, Full with a pending of as many as wait; all \
+an answer waits beside the held links, of which 32 are 31. The peer \
+that is removed and comes back has no path. Sent is timed with 2^32 - 1 resends in the settings, so that each sets the next, Full with a pending of 1; all \
 else has the default settings. A close runs on a copy of the table, made before the clock starts: eight in a run, all their links held.
 ";
 

@@ -7,7 +7,7 @@ use crate::proto::settle::links::LinkNo;
 use crate::proto::settle::output::Why;
 use crate::proto::settle::params::Params;
 use crate::proto::settle::table::{Held, Table};
-use crate::record::{Call, default_settings};
+use crate::record::Call;
 use crate::time::{Clock, Duration, Instant};
 
 const TRANSPORT: u64 = 7;
@@ -25,7 +25,7 @@ impl Module for Holding {
 
 impl Holding {
     pub fn new() -> Self {
-        Holding(Table::new(node(0), default_settings()))
+        Holding(Table::new(node(0), Params::default()))
     }
 
     fn change(&mut self, letter: u8, [a, b, c, ..]: [u64; 5], words: &mut Words) {
@@ -84,7 +84,7 @@ fn plain(letter: u8, [a, b, c, d, _]: [u64; 5], words: &mut Words) {
         b'p' => words.truth(pair(a, b) == pair(c, d)),
         b's' => settings(words),
         b'i' => {
-            let params = Params { counted: a as usize, replays: b as usize, ..default_settings() };
+            let params = Params { counted: a as usize, replays: b as usize, ..Params::default() };
             words.truth(in_range(&params));
         }
         _ => {}
@@ -92,7 +92,7 @@ fn plain(letter: u8, [a, b, c, d, _]: [u64; 5], words: &mut Words) {
 }
 
 fn settings(words: &mut Words) {
-    let p = default_settings();
+    let p = Params::default();
     for d in [p.unheard, p.interval] {
         words.number(nanos(d));
     }
