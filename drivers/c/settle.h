@@ -1,4 +1,4 @@
-/* The settle table: which peer is held on which link. `rt staticlib settle` makes the library, target/staticlib/libsettle.a.
+/* The settle table: which peer is held on which link. bin/libsettle makes the library, target/lib/libsettle.a.
  *
  * The library keeps nothing of its own: no memory but what is lent, no clock, no sockets. The driver lends a table, a record and a
  * buffer for the length of one call, and does what the outputs say: it sends, dials and closes connections, and gives leases (receive

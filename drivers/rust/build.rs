@@ -1,11 +1,11 @@
-//! Links libsettle.a from the folder that SETTLE_LIB names, else from target/staticlib of the repository.
+//! Links libsettle.a from the folder that SETTLE_LIB names, else from target/lib of the repository.
 use std::{env, path::PathBuf};
 
-const HINT: &str = "make it by `rt staticlib settle` at the top of the repository, or by drivers/run";
+const HINT: &str = "make it by bin/libsettle";
 
 fn main() {
     let top = PathBuf::from(env::var_os("CARGO_MANIFEST_DIR").expect("cargo sets it")).join("../..");
-    let folder = env::var_os("SETTLE_LIB").map_or(top.join("target/staticlib"), PathBuf::from);
+    let folder = env::var_os("SETTLE_LIB").map_or(top.join("target/lib"), PathBuf::from);
     let archive = folder.join("libsettle.a");
     if !archive.is_file() {
         println!("cargo::error=there is no {}: {HINT}", archive.display());
