@@ -1,7 +1,6 @@
 // The entries: a table is made by `new`, and changed by `call` alone. Both answer every record, whatever its bytes.
 #![tactic(auto)]
 
-pub mod export;
 pub mod layout;
 
 ghost use Rattle.std.specs.Prelude.{◌≡◌, length};

@@ -1,10 +1,12 @@
-// The entries for C and Rust: slices are a pointer and a length.
+// The entries of settle for C and Rust: slices are a pointer and a length.
+#![tactic(auto)]
+
 ghost use Rattle.std.specs.Prelude.{◌≡◌, length};
 ghost use Rattle.settle.specs.Contract.{Left, Begun, Called};
 ghost use Rattle.table_layout.specs.Layout.{table_len};
 
-use crate::{call, new};
 use call_contract::Answer;
+use settle::{call, new};
 use table_layout::layout::TABLE_LEN;
 
 // How many bytes a table has.
