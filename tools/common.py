@@ -1,4 +1,4 @@
-"""What the scripts here share: the root, words of the command line, rt, and the places of a function's needs."""
+"""What the scripts here share: the root, words of the command line, and rt."""
 import importlib.machinery
 import importlib.util
 import os
@@ -9,8 +9,8 @@ import subprocess
 import sys
 
 TOP = os.path.dirname(os.path.dirname(os.path.abspath(__file__)))
+sys.dont_write_bytecode = True
 signal.signal(signal.SIGPIPE, signal.SIG_DFL)  # output into head and the like
-GENERATED = f"{TOP}/target/gen"  # below target/: an antt file anywhere else fails rt ci
 
 
 def fail(why):
@@ -30,25 +30,32 @@ def words(usage, least, flags=()):
     return plain, {w for w in given if w.startswith("--")}
 
 
+def dependencies():
+    """Of each crate of crates.txt, in its order, what it lists."""
+    with open(f"{TOP}/crates.txt") as f:
+        rows = (line.split("#")[0].partition(":") for line in f)
+        return {head.split()[0]: rest.split() for head, _, rest in rows if head.strip()}
+
+
 def known(crate):
     """The crate's folder; an error if crates.txt does not list it."""
-    with open(f"{TOP}/crates.txt") as f:
-        if not any(line.startswith(f"{crate}:") for line in f):
-            fail(f"crates.txt lists no crate {crate}")
+    if crate not in dependencies():
+        fail(f"crates.txt lists no crate {crate}")
     return f"{TOP}/crates/{crate}"
 
 
-def rt(*args):
-    """Runs rt at the root: exit code, and what it said, paths from the root."""
+def rt(crate, *args):
+    """Runs rt in a crate's folder: exit code, and what it said, paths from that folder."""
     if not shutil.which("rt"):
         fail("rt is not in PATH")
-    run = subprocess.run(["rt", *args], cwd=TOP, capture_output=True, text=True, env=dict(os.environ, RT_CUT="0"))
-    return run.returncode, (run.stdout + run.stderr).replace(f"{os.path.realpath(TOP)}/", "").replace(f"{TOP}/", "")
+    folder = f"{TOP}/crates/{crate}"
+    run = subprocess.run(["rt", *args], cwd=folder, stdout=subprocess.PIPE, stderr=subprocess.STDOUT, text=True, errors="replace")
+    return run.returncode, run.stdout.replace(f"{os.path.realpath(folder)}/", "").replace(f"{folder}/", "")
 
 
 def kit():
     """The toolchain's folder, as rt finds it."""
-    return os.environ.get("RATTLE_HOME") or os.path.dirname(os.path.dirname(os.path.realpath(shutil.which("rt") or "rt")))
+    return os.path.dirname(os.path.dirname(os.path.realpath(shutil.which("rt") or "rt")))
 
 
 def ci_edits():
@@ -59,17 +66,6 @@ def ci_edits():
     return module
 
 
-def path_of(fn):
-    """module::fn and module/fn alike, as the folder of the function's proof."""
-    return fn.replace("::", "/")
-
-
 def short_names(text):
     """antt's words with the modules of a repository's names left out."""
-    return re.sub(r"Rattle·\w+(?:·\w+)?\.(?:specs|proofs)\.(?:[\w+]+\.)*", "", text)
-
-
-def said_why(said):
-    """The lines of rt that say why it stopped, for an error."""
-    lines = [line for line in said.splitlines() if re.search(r"error|NOT PROVED|FAILED|^rt: (?!.* proved)", line)]
-    return "\n".join(line[:300] for line in lines[:5]) or said[-600:]
+    return re.sub(r"Rattle\.\w+\.(?:specs|proofs)\.(?:[\w+]+\.)*", "", text)
