@@ -172,6 +172,7 @@ class Function:
         for place, parent, (old, new), callee, *_ in entry["places"]:
             self.steps.setdefault(norm(old), new)
             self.callee.setdefault(norm(old), callee)
+        self.called = {c.split("::")[-1] for c in self.callee.values() if c}
         self.arms = {}
         for arm in entry["arms"]:
             if arm:
@@ -233,7 +234,7 @@ class Function:
         if head in self.steps:
             if rest and rest[0] == "ensures" and head in self.clauses:
                 rest = ["ensures"] + self.clause(rest[1:], self.clauses[head])
-            if rest and rest[0] in ("true", "false") and len(rest) == 1 and self.steps[head].startswith("if-not-"):
+            if rest and rest[0] in ("true", "false") and len(rest) == 1 and self.steps[head].startswith("if-not-") and re.sub(r"-\d+$", "", self.steps[head][7:]) in self.called:
                 return f"(ap not c.{self.steps[head]}.{rest[0]})"
             return "c." + self.steps[head] + "".join("." + s for s in rest)
         self.odd.append(f"step {head}")
@@ -263,7 +264,7 @@ class Function:
         # clauses that a let names: positions become labels
         while True:
             found = None
-            for m in re.finditer(r"let (\S+) = ([^\s.()]+)((?:\.[^\s()]+)*\.(?:requires|ensures)) in\s*", text):
+            for m in re.finditer(r"let (\S+) = ([^\s.()]+)((?:\.[^\s().]+)+) in\s+", text):
                 base, segs = m.group(2), [s for s in m.group(3).split(".") if s]
                 if base == root or base in alias:
                     found = m
