@@ -13,7 +13,7 @@ import sys
 WORD = r"[^\s(){}.;,]+"
 PATH = re.compile(r"(?<![^\s(){};,])([a-zα-ω][^\s(){}.;,]*)((?:\.[^\s(){}.;,]+)+)")
 norm = lambda s: s.replace("-", "_")
-bare = lambda s: re.sub(r"^(overflow|nonzero)_", "", norm(s))
+bare = lambda s: re.sub(r"^slice_bounds_", "part_", re.sub(r"^(overflow|nonzero)_", "", norm(s)))
 
 
 def ensures_labels():
@@ -32,7 +32,8 @@ def ensures_labels():
             req = re.findall(r"(?m)^\s+requires (?:(\w+) )?\{", head)
             ens = re.findall(r"(?m)^\s+ensures (?:(\w+) )?\{", head)
             params = re.findall(r"(\w+)\s*:", re.sub(r"requires[\s\S]*|ensures[\s\S]*|->[\s\S]*", "", head))
-            found["::".join([crate] + module + [m.group(1)])] = (req, ens, params)
+            end = re.compile(r"(?m)^\}").search(text, m.end())
+            found["::".join([crate] + module + [m.group(1)])] = (req, ens, params, text[m.end() : end.start() if end else None])
     return found
 
 
@@ -189,8 +190,14 @@ class Function:
                 self.typed[norm(step)] = var
         self.odd = []
 
+    def plain(self, name):
+        """Whether `!name` tests a call or a variable, and no field."""
+        return not (self.own and re.search(r"!" + re.escape(name) + r"\.", self.own[3]))
+
     def clause(self, segs, names):
         """Positions of a pair of clauses, as labels."""
+        if len(names) == 1 and segs[:1] != names:
+            return names + segs
         if not segs or len(names) < 2 or segs[0] not in ("0", "1"):
             return segs
         i = 0
@@ -234,7 +241,7 @@ class Function:
         if head in self.steps:
             if rest and rest[0] == "ensures" and head in self.clauses:
                 rest = ["ensures"] + self.clause(rest[1:], self.clauses[head])
-            if rest and rest[0] in ("true", "false") and len(rest) == 1 and self.steps[head].startswith("if-not-") and re.sub(r"-\d+$", "", self.steps[head][7:]) in self.called:
+            if rest and rest[0] in ("true", "false") and len(rest) == 1 and self.steps[head].startswith("if-not-") and self.plain(re.sub(r"-\d+$", "", self.steps[head][7:])):
                 return f"(ap not c.{self.steps[head]}.{rest[0]})"
             return "c." + self.steps[head] + "".join("." + s for s in rest)
         self.odd.append(f"step {head}")
@@ -303,7 +310,7 @@ def declarations(text):
             block = [line]
             i += 1
             name = re.match(r"(?:pub |abbrev |unfoldable )*(\S+)", line).group(1)
-            while i < len(lines) and (not lines[i].strip() or lines[i][0].isspace() or lines[i].startswith("unfolding") or lines[i].split(" ")[0] == name):
+            while i < len(lines) and (not lines[i].strip() or lines[i][0].isspace() or lines[i][0] in ")]}" or lines[i].startswith("unfolding") or lines[i].split(" ")[0] == name):
                 block.append(lines[i])
                 i += 1
             decls.append((name, "\n".join(block).rstrip()))
@@ -382,7 +389,7 @@ def turn(crate, path, names, labels):
         if f.odd:
             print(f"  {path}: {new}: {', '.join(sorted(set(f.odd)))}")
             f.odd = []
-        body = body.strip()
+        body = re.sub(r"\n(?=\S)", "\n    ", body.strip())
         answers.append((new, unfolding, "\n    " + body if "\n" in body else " " + body))
     others = [t for n, t in decls if n not in loops and n not in rest and n not in [by_name.get(x) for x in rest] and not (n.endswith("_spec") or n.endswith("-spec")) and not re.search(r": tie\.Need-", t.split("\n")[0])]
     uses = [u for u in uses if not re.search(r"\.(Statement|Tie)\b", u)]
