@@ -6,6 +6,7 @@ use Rattle.params.specs.View.{view_params}
 use Rattle.gates_types.specs.View.{source_of, view_liveness}
 use Rattle.gates_judge.specs.Tests.{blank_judged}
 use Rattle.gates_judge.proofs.judged_blank.Goals as goal
+use Rattle.gates_judge.proofs.judged_blank.Goals.{then-not-l-2+else-c-eq0, else-not-l-2}
 
 pub returns-then-not-l : goal.returns-then-not-l
 returns-then-not-l c =
@@ -39,7 +40,7 @@ returns c =
     let r = blank_judged (view_params c.args.c) c.args.clock (source_of c.args.source) (view_liveness c.args.l) d p in
     let x = not-false c.args.l.held c.if-not-l.false in
     let y = sym c.gated.ensures ∙ c.if-not-gated.false in
-    ⊎_elim
-    (λ w. c.young.ensures ∙ sym (r ∙ rw (x, y, not-true c.args.l.heard w.0.taken, lt-leb c.args.c.replays 0 (omega arith))))
-    (λ w. c.young.ensures ∙ sym (r ∙ rw (x, y, not-false c.args.l.heard w.left)))
-    c.if-not-l-2.branch
+    elim c.if-not-l-2.branch [
+      | then-not-l-2+else-c-eq0 w ↦ c.young.ensures ∙ sym (r ∙ rw (x, y, not-true c.args.l.heard w.if-not-l-2.true, lt-leb c.args.c.replays 0 (omega arith)))
+      | else-not-l-2 w ↦ c.young.ensures ∙ sym (r ∙ rw (x, y, not-false c.args.l.heard w.if-not-l-2.false))
+    ]
