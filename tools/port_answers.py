@@ -13,7 +13,7 @@ import sys
 WORD = r"[^\s(){}.;,]+"
 PATH = re.compile(r"(?<![^\s(){};,])([a-zα-ω][^\s(){}.;,]*)((?:\.[^\s(){}.;,]+)+)")
 norm = lambda s: s.replace("-", "_")
-bare = lambda s: re.sub(r"^(overflow|nonzero)_", "", norm(s))
+bare = lambda s: re.sub(r"^slice_bounds_", "part_", re.sub(r"^(overflow|nonzero)_", "", norm(s)))
 
 
 def ensures_labels():
@@ -32,7 +32,8 @@ def ensures_labels():
             req = re.findall(r"(?m)^\s+requires (?:(\w+) )?\{", head)
             ens = re.findall(r"(?m)^\s+ensures (?:(\w+) )?\{", head)
             params = re.findall(r"(\w+)\s*:", re.sub(r"requires[\s\S]*|ensures[\s\S]*|->[\s\S]*", "", head))
-            found["::".join([crate] + module + [m.group(1)])] = (req, ens, params)
+            end = re.compile(r"(?m)^\}").search(text, m.end())
+            found["::".join([crate] + module + [m.group(1)])] = (req, ens, params, text[m.end() : end.start() if end else None])
     return found
 
 
@@ -88,18 +89,21 @@ def whole_group(text):
     return True
 
 
-def to_record(expr, labels):
+def to_record(expr, labels, known=lambda step: None):
     expr = expr.strip()
+    m = re.fullmatch(r"c\.([^\s().]+)\.ensures", expr)
+    if m and known(m.group(1)) and len(known(m.group(1))) == len(labels):
+        return "record { " + "; ".join(f"{a} = {expr}.{b}" for a, b in zip(labels, known(m.group(1)))) + " }"
     if re.match(r"let\b", expr):
         at = last_in(expr)
         if at is not None:
-            body = to_record(expr[at + 3 :], labels)
+            body = to_record(expr[at + 3 :], labels, known)
             return body and expr[: at + 3] + "\n    " + body
     if whole_group(expr):
         parts = split_top(expr[1:-1], ",")
         parts = [p for p in parts if p.strip()]
         if len(parts) == 1:
-            return to_record(parts[0], labels)
+            return to_record(parts[0], labels, known)
         fields, rest = [], expr
         while len(labels) > len(fields) + 1:
             parts = [p for p in split_top(rest.strip()[1:-1], ",") if p.strip()] if whole_group(rest.strip()) else [rest]
@@ -113,12 +117,20 @@ def to_record(expr, labels):
     args = arguments(expr)
     if args and args[0] in ("rw", "simp") and len(args) >= 3 and whole_group(args[-1]):
         at = expr.rindex(args[-1])
-        return expr[:at] + "(" + to_record(args[-1], labels) + ")"
+        return expr[:at] + "(" + to_record(args[-1], labels, known) + ")"
     if args and args[0] == "rw":
+        at = expr.rindex(args[-1])
+        if re.fullmatch(r"c\.([^\s().]+)\.ensures", args[-1]):
+            got = to_record(args[-1], labels, known)
+            return got and expr[:at] + "(" + got + ")"
         return None
     if args[:2] == ["search", "rules"] or args[0] in ("search", "omega", "grind"):
         return expr
-    return "record { " + "; ".join(f"{l} = ({expr}){pick(i, len(labels))}" for i, l in enumerate(labels)) + " }"
+    if len(labels) > 4:
+        return None
+    names = "abde"[: len(labels)]
+    both = "both" if len(labels) == 2 else f"both_{len(labels)}"
+    return f"{both} (λ {' '.join(names)}. record {{ " + "; ".join(f"{l} = {x}" for l, x in zip(labels, names)) + f" }}) ({expr})"
 
 
 def pick(i, n):
@@ -161,14 +173,31 @@ class Function:
         for place, parent, (old, new), callee, *_ in entry["places"]:
             self.steps.setdefault(norm(old), new)
             self.callee.setdefault(norm(old), callee)
+        self.called = {c.split("::")[-1] for c in self.callee.values() if c}
+        self.arms = {}
+        for arm in entry["arms"]:
+            if arm:
+                for field, old, path in arm[2]:
+                    self.arms.setdefault(norm(old), {})[tuple(path)] = f"{arm[0]}.{field}"
+        self.clauses, self.by_new = {}, {}
+        for place, clause in zip(entry["places"], entry["clauses"]):
+            if clause and clause.get("fields"):
+                self.clauses[norm(place[2][0])] = clause["fields"]
+                self.by_new[place[2][1]] = clause["fields"]
         self.typed = {}
         for row in entry["typed"]:
             for var, step in row:
                 self.typed[norm(step)] = var
         self.odd = []
 
+    def plain(self, name):
+        """Whether `!name` tests a call or a variable, and no field."""
+        return not (self.own and re.search(r"!" + re.escape(name) + r"\.", self.own[3]))
+
     def clause(self, segs, names):
         """Positions of a pair of clauses, as labels."""
+        if len(names) == 1 and segs[:1] != names:
+            return names + segs
         if not segs or len(names) < 2 or segs[0] not in ("0", "1"):
             return segs
         i = 0
@@ -186,8 +215,7 @@ class Function:
     def path(self, base, segs, alias):
         if base in alias:
             segs = alias[base] + segs
-            base = "c"
-        if base != "c":
+        elif base != self.root:
             return base + "".join("." + norm(s) for s in segs)
         while segs and segs[0] == "before":
             segs = segs[1:]
@@ -204,19 +232,23 @@ class Function:
             return "c" + "".join("." + s for s in ["requires"] + self.clause(rest, fields))
         if head in self.typed and rest and rest[0] == "given":
             return "c" + "".join("." + s for s in ["type_inv", self.typed[head]] + rest[1:])
+        if head not in self.steps and head.endswith("_lem"):
+            head = head[:-4]
+        for n in range(len(rest), 0, -1):
+            field = self.arms.get(head, {}).get(tuple(rest[:n]))
+            if field and not field.endswith("-own"):
+                return "c." + field + "".join("." + s for s in rest[n:])
         if head in self.steps:
-            callee = self.callee[head]
-            if callee and rest and rest[0] == "ensures":
-                known = self.labels.get(callee)
-                if known is None:
-                    self.odd.append(f"no labels of {callee}")
-                else:
-                    rest = ["ensures"] + self.clause(rest[1:], known[1])
+            if rest and rest[0] == "ensures" and head in self.clauses:
+                rest = ["ensures"] + self.clause(rest[1:], self.clauses[head])
+            if rest and rest[0] in ("true", "false") and len(rest) == 1 and self.steps[head].startswith("if-not-") and self.plain(re.sub(r"-\d+$", "", self.steps[head][7:])):
+                return f"(ap not c.{self.steps[head]}.{rest[0]})"
             return "c." + self.steps[head] + "".join("." + s for s in rest)
         self.odd.append(f"step {head}")
         return "c." + head + "".join("." + s for s in rest)
 
-    def expression(self, text):
+    def expression(self, text, root="c"):
+        self.root = root
         alias = {}
         bound = set(re.findall(r"\blet (\S+)", text)) | {x for m in re.findall(r"λ ([^.]*)\.", text) for x in re.findall(r"[^\s():]+", m)}
         # places that a let names
@@ -225,9 +257,9 @@ class Function:
             found = None
             for m in re.finditer(r"let (\S+) = ([^\s.()]+)((?:\.[^\s.()]+)*) in\s*", text):
                 base, segs = m.group(2), [s for s in m.group(3).split(".") if s]
-                if base != "c" and base not in alias:
+                if base != root and base not in alias:
                     continue
-                full = (alias.get(base, []) if base != "c" else []) + segs
+                full = (alias.get(base, []) if base != root else []) + segs
                 if all(s == "before" for s in full):
                     found = m
                     alias[m.group(1)] = full
@@ -239,26 +271,26 @@ class Function:
         # clauses that a let names: positions become labels
         while True:
             found = None
-            for m in re.finditer(r"let (\S+) = ([^\s.()]+)((?:\.[^\s()]+)*\.(?:requires|ensures)) in\s*", text):
+            for m in re.finditer(r"let (\S+) = ([^\s.()]+)((?:\.[^\s().]+)+) in\s+", text):
                 base, segs = m.group(2), [s for s in m.group(3).split(".") if s]
-                if base == "c" or base in alias:
+                if base == root or base in alias:
                     found = m
-                    full = (alias.get(base, []) if base != "c" else []) + segs
+                    full = (alias.get(base, []) if base != root else []) + segs
                     break
             if not found:
                 break
             text = text[: found.start()] + text[found.end() :]
-            text = re.sub(r"(?<![^\s(){};,])" + re.escape(found.group(1)) + r"(?=[\s(){};,.]|$)", "c." + ".".join(full), text)
+            text = re.sub(r"(?<![^\s(){};,])" + re.escape(found.group(1)) + r"(?=[\s(){};,.]|$)", root + "." + ".".join(full), text)
 
         def one(m):
             base, segs = m.group(1), m.group(2)[1:].split(".")
-            if base == "c" or base in alias or base in bound:
+            if base == root or base in alias or base in bound:
                 return self.path(base, segs, alias)
             return m.group(0)
 
         text = PATH.sub(one, text)
         # a test on `!b` says what it says of b
-        return re.sub(r"not-(?:true|false) (?:\([^()]*\)|[^\s()]+) (\([^()]*\)|[^\s()]+)", r"\1", text)
+        return re.sub(r"not-(?:true|false) (?:\([^()]*\)|[^\s()]+) \(ap not ([^\s()]+)\)", r"\1", text)
 
 
 def declarations(text):
@@ -278,7 +310,7 @@ def declarations(text):
             block = [line]
             i += 1
             name = re.match(r"(?:pub |abbrev |unfoldable )*(\S+)", line).group(1)
-            while i < len(lines) and (not lines[i].strip() or lines[i][0].isspace() or lines[i].startswith("unfolding") or lines[i].split(" ")[0] == name):
+            while i < len(lines) and (not lines[i].strip() or lines[i][0].isspace() or lines[i][0] in ")]}" or lines[i].startswith("unfolding") or lines[i].split(" ")[0] == name):
                 block.append(lines[i])
                 i += 1
             decls.append((name, "\n".join(block).rstrip()))
@@ -336,34 +368,33 @@ def turn(crate, path, names, labels):
             if m and bare(m.group(1)) != bare(old):
                 raise Fit(f"{m.group(1)} stands for {old}")
             unfolding = re.search(r"(?m)^unfolding (.*)$", text)
-            body = re.search(r"(?ms)^" + re.escape(a) + r" c(?: κs)? =(.*)$", text)
+            body = re.search(r"(?ms)^" + re.escape(a) + r" (\w+)(?: κs)? =(.*)$", text)
             if not body:
                 raise Fit(f"{a} has another form")
-            body, unfolding = body.group(1), unfolding and unfolding.group(1)
+            root, body, unfolding = body.group(1), body.group(2), unfolding and unfolding.group(1)
         else:
-            m = re.match(r"(?s)\(λ c(?: κs)?\. (.*)\)$", a)
+            m = re.match(r"(?s)\(λ (\w+)(?: κs)?\. (.*)\)$", a)
             if not m:
                 raise Fit(f"{a} is not named")
-            body, unfolding = m.group(1), None
+            root, body, unfolding = m.group(1), m.group(2), None
         if " ".join(body.split()) == "search rules" and not unfolding:
             continue
-        body = f.expression(body)
-        clauses = f.n["asked"].get(new) or []
-        if new.startswith("returns") and own and len(own[1]) > 1:
-            clauses = own[1]
+        body = f.expression(body, root)
+        clauses = f.n["asked"].get(old) or []
         if len(clauses) > 1:
-            body = to_record(body, clauses)
+            body = to_record(body, clauses, lambda step: f.by_new.get(step))
             if body is None:
                 print(f"  {path}: {new}: left to the search")
                 continue
         if f.odd:
             print(f"  {path}: {new}: {', '.join(sorted(set(f.odd)))}")
             f.odd = []
-        body = body.strip()
+        body = re.sub(r"\n(?=\S)", "\n    ", body.strip())
         answers.append((new, unfolding, "\n    " + body if "\n" in body else " " + body))
     others = [t for n, t in decls if n not in loops and n not in rest and n not in [by_name.get(x) for x in rest] and not (n.endswith("_spec") or n.endswith("-spec")) and not re.search(r": tie\.Need-", t.split("\n")[0])]
     uses = [u for u in uses if not re.search(r"\.(Statement|Tie)\b", u)]
-    kept = lambda text: [u for u in (used(u, text) for u in uses) if u]
+    more = ["use Rattle.lib_laws.specs.Both.{both, both_3, both_4}", "use Rattle.std.proofs.Common.{ap}", "use mathlib.Core.Bool.{not}"]
+    kept = lambda text: [u for u in (used(u, text) for u in uses + more) if u]
     module = f"Rattle.{crate}.proofs.{rel}"
     if loops:
         out = []

@@ -14,7 +14,7 @@ use table_held::{held_has_last, held_heard, held_installed, held_last};
 use table_layout::head::params_of;
 use table_query::full;
 
-#[derive(Drop)]
+#[derive(Clone, Copy)]
 pub enum Ruling {
     Admit,
     Deny(Denial),

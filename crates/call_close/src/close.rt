@@ -36,7 +36,7 @@ pub fn free_all(t: &[u8], out: &mut [u8], at: usize) -> usize
 }
 
 // Pairs in a row: how many, and where they end.
-#[derive(Drop)]
+#[derive(Clone, Copy)]
 struct Row {
     count: usize,
     end: usize,

@@ -3,7 +3,7 @@
 
 // `number` is the refusal, 0 for none; `len` is where the outputs end. Laid out as in C, since it is what a call answers to a driver.
 #[repr(C)]
-#[derive(Drop)]
+#[derive(Clone, Copy)]
 pub struct Answer {
     pub number: u8,
     pub len: usize,

@@ -7,28 +7,28 @@ ghost use Rattle.gates_types.specs.View.{blank_replay, blank_replays, blank_dige
 use node_addr::{Digest, NodeAddr};
 
 // A digest that promoted the peer unheard, and when.
-#[derive(Drop)]
+#[derive(Clone, Copy)]
 pub struct Replay {
     pub digest: Digest,
     pub seen: u64,
 }
 
 // Blank places past `len`.
-#[derive(Drop)]
+#[derive(Clone, Copy)]
 pub struct Replays {
     pub len: usize,
     pub places: [Replay; 8],
 }
 
 // Blank places past `len`.
-#[derive(Drop)]
+#[derive(Clone, Copy)]
 pub struct Digests {
     pub len: usize,
     pub places: [Digest; 8],
 }
 
 // Sessions in a row that ended unheard. `epoch` is 0 unless `has_epoch`, `until` 0 unless `has_until`.
-#[derive(Drop)]
+#[derive(Clone, Copy)]
 pub struct Silence {
     pub has_epoch: bool,
     pub epoch: u64,
@@ -40,7 +40,7 @@ pub struct Silence {
 }
 
 // `stamp` is 0 unless `has_stamp`, `silence` blank unless `has_silence`.
-#[derive(Drop)]
+#[derive(Clone, Copy)]
 pub struct Memory {
     pub peer: NodeAddr,
     pub has_stamp: bool,
@@ -51,7 +51,7 @@ pub struct Memory {
 }
 
 // What asks for a judgement.
-#[derive(Drop)]
+#[derive(Clone, Copy)]
 pub enum Source {
     NotHeld,
     Restart,
@@ -61,7 +61,7 @@ pub enum Source {
 }
 
 // Why a msg1 is refused.
-#[derive(Drop)]
+#[derive(Clone, Copy)]
 pub enum Refusal {
     Unheard,
     Heard,
@@ -72,21 +72,21 @@ pub enum Refusal {
 }
 
 // Why a msg1 is not accepted: no room, or what the gate says.
-#[derive(Drop)]
+#[derive(Clone, Copy)]
 pub enum Denial {
     Full,
     Gate(Refusal),
 }
 
 // A judgement.
-#[derive(Drop)]
+#[derive(Clone, Copy)]
 pub enum Verdict {
     Pass,
     Refuse(Refusal),
 }
 
 // The peering that a msg1 would end, where there is one (`held`). `last` is 0 unless `has_last`.
-#[derive(Drop)]
+#[derive(Clone, Copy)]
 pub struct Liveness {
     pub held: bool,
     pub heard: bool,

@@ -2,7 +2,7 @@
 use node_addr::{Digest, LinkNo, NodeAddr, Pair};
 
 // `last` is 0 unless `has_last`, `setup` zeros unless `has_setup`.
-#[derive(Drop)]
+#[derive(Clone, Copy)]
 pub struct Held {
     pub peer: NodeAddr,
     pub link: LinkNo,

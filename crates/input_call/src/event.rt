@@ -12,13 +12,13 @@ use input_cursor::{at_end, next_code, next_flag, next_pair, next_peer, next_u64,
 use node_addr::layout::NODE_LEN;
 use node_addr::{LinkNo, NodeAddr, Pair, blank_pair};
 
-#[derive(Drop)]
+#[derive(Clone, Copy)]
 pub struct LinkFields {
     pub ok: bool,
     pub link: LinkNo,
 }
 
-#[derive(Drop)]
+#[derive(Clone, Copy)]
 pub struct Msg2Fields {
     pub ok: bool,
     pub link: LinkNo,
@@ -26,28 +26,28 @@ pub struct Msg2Fields {
     pub pair: Pair,
 }
 
-#[derive(Drop)]
+#[derive(Clone, Copy)]
 pub struct RestartedFields {
     pub ok: bool,
     pub peer: NodeAddr,
     pub epoch: u64,
 }
 
-#[derive(Drop)]
+#[derive(Clone, Copy)]
 pub struct HeardFields {
     pub ok: bool,
     pub peer: NodeAddr,
     pub from: usize,
 }
 
-#[derive(Drop)]
+#[derive(Clone, Copy)]
 pub struct RemoveFields {
     pub ok: bool,
     pub peer: NodeAddr,
     pub why: u8,
 }
 
-#[derive(Drop)]
+#[derive(Clone, Copy)]
 pub struct PathFields {
     pub ok: bool,
     pub link: LinkNo,
@@ -55,7 +55,7 @@ pub struct PathFields {
     pub state: u8,
 }
 
-#[derive(Drop)]
+#[derive(Clone, Copy)]
 pub struct ReleaseFields {
     pub ok: bool,
     pub link: LinkNo,

@@ -19,7 +19,7 @@ use input_field::Span;
 use node_addr::layout::NODE_LEN;
 use node_addr::{Message, NodeAddr, Pair, blank_message, blank_pair};
 
-#[derive(Drop)]
+#[derive(Clone, Copy)]
 pub struct DialFields {
     pub ok: bool,
     pub peer: NodeAddr,
@@ -28,7 +28,7 @@ pub struct DialFields {
     pub lease: u32,
 }
 
-#[derive(Drop)]
+#[derive(Clone, Copy)]
 pub struct ArrivedFields {
     pub ok: bool,
     pub from: usize,
@@ -36,21 +36,21 @@ pub struct ArrivedFields {
 }
 
 // In these the flags stand behind the hello: in front of it the compiler copies the unused bytes between them too.
-#[derive(Drop)]
+#[derive(Clone, Copy)]
 pub struct HelloAt {
     pub hello: Hello,
     pub at: usize,
     pub ok: bool,
 }
 
-#[derive(Drop)]
+#[derive(Clone, Copy)]
 pub struct Msg1Fields {
     pub hello: Hello,
     pub reachable: bool,
     pub ok: bool,
 }
 
-#[derive(Drop)]
+#[derive(Clone, Copy)]
 pub struct ReplacementFields {
     pub hello: Hello,
     pub ok: bool,

@@ -7,7 +7,7 @@ use node_addr::layout::{DIGEST_LEN, NODE_LEN};
 use node_addr::{Digest, NodeAddr};
 
 // The pair, from `from` on, and the messages stand in the record.
-#[derive(Drop)]
+#[derive(Clone, Copy)]
 pub struct Hello {
     pub peer: NodeAddr,
     pub from: usize,

@@ -18,69 +18,69 @@ use lib_bytes::layout::{U16, U32, U64};
 use node_addr::layout::{ADDR_CAP, DIGEST_LEN, MESSAGE_CAP, NODE_LEN, PAIR_ADDR};
 use node_addr::{Addr, Digest, Message, NodeAddr, Pair, TransportId};
 
-#[derive(Drop)]
+#[derive(Clone, Copy)]
 pub struct PeerAt {
     pub ok: bool,
     pub value: NodeAddr,
     pub at: usize,
 }
 
-#[derive(Drop)]
+#[derive(Clone, Copy)]
 pub struct DigestAt {
     pub ok: bool,
     pub value: Digest,
     pub at: usize,
 }
 
-#[derive(Drop)]
+#[derive(Clone, Copy)]
 pub struct U64At {
     pub ok: bool,
     pub value: u64,
     pub at: usize,
 }
 
-#[derive(Drop)]
+#[derive(Clone, Copy)]
 pub struct U32At {
     pub ok: bool,
     pub value: u32,
     pub at: usize,
 }
 
-#[derive(Drop)]
+#[derive(Clone, Copy)]
 pub struct ByteAt {
     pub ok: bool,
     pub value: u8,
     pub at: usize,
 }
 
-#[derive(Drop)]
+#[derive(Clone, Copy)]
 pub struct FlagAt {
     pub ok: bool,
     pub value: bool,
     pub at: usize,
 }
 
-#[derive(Drop)]
+#[derive(Clone, Copy)]
 pub struct PairAt {
     pub ok: bool,
     pub value: Pair,
     pub at: usize,
 }
 
-#[derive(Drop)]
+#[derive(Clone, Copy)]
 pub struct MessageAt {
     pub ok: bool,
     pub value: Message,
     pub at: usize,
 }
 
-#[derive(Drop)]
+#[derive(Clone, Copy)]
 pub struct PastAt {
     pub ok: bool,
     pub at: usize,
 }
 
-#[derive(Drop)]
+#[derive(Clone, Copy)]
 pub struct SpanAt {
     pub ok: bool,
     pub value: Span,

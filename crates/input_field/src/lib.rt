@@ -13,63 +13,63 @@ use node_addr::layout::{ADDR_CAP, DIGEST_LEN, MESSAGE_CAP, NODE_LEN, PAIR_ADDR, 
 use node_addr::place::{load_digest, load_node, load_wire_pair};
 use node_addr::{Addr, Digest, Message, NodeAddr, Pair, TransportId};
 
-#[derive(Drop)]
+#[derive(Clone, Copy)]
 pub struct ReadPeer {
     pub ok: bool,
     pub value: NodeAddr,
 }
 
-#[derive(Drop)]
+#[derive(Clone, Copy)]
 pub struct ReadU64 {
     pub ok: bool,
     pub value: u64,
 }
 
-#[derive(Drop)]
+#[derive(Clone, Copy)]
 pub struct ReadU32 {
     pub ok: bool,
     pub value: u32,
 }
 
-#[derive(Drop)]
+#[derive(Clone, Copy)]
 pub struct ReadByte {
     pub ok: bool,
     pub value: u8,
 }
 
-#[derive(Drop)]
+#[derive(Clone, Copy)]
 pub struct ReadFlag {
     pub ok: bool,
     pub value: bool,
 }
 
-#[derive(Drop)]
+#[derive(Clone, Copy)]
 pub struct ReadDigest {
     pub ok: bool,
     pub value: Digest,
 }
 
-#[derive(Drop)]
+#[derive(Clone, Copy)]
 pub struct ReadPair {
     pub ok: bool,
     pub value: Pair,
 }
 
-#[derive(Drop)]
+#[derive(Clone, Copy)]
 pub struct ReadMessage {
     pub ok: bool,
     pub value: Message,
 }
 
 // How many bytes a field has that stays where it stands.
-#[derive(Drop)]
+#[derive(Clone, Copy)]
 pub struct ReadSpan {
     pub ok: bool,
     pub len: usize,
 }
 
 // A message where it stands in a record: its first byte, and how many.
-#[derive(Drop)]
+#[derive(Clone, Copy)]
 pub struct Span {
     pub at: usize,
     pub len: usize,

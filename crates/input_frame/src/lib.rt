@@ -13,7 +13,7 @@ use input_field::two_bytes;
 use lib_bytes::layout::U16;
 use node_addr::layout::{FRAME_KIND, FRAME_LEN, FRAME_VERSION, VERSION};
 
-#[derive(Drop)]
+#[derive(Clone, Copy)]
 pub struct Frame {
     pub ok: bool,
     pub kind: u8,
@@ -52,7 +52,7 @@ pub fn read_frame(rec: &[u8]) -> Frame
     }
 }
 
-#[derive(Drop)]
+#[derive(Clone, Copy)]
 pub struct Header {
     pub ok: bool,
     pub kind: u8,

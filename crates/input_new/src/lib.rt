@@ -16,7 +16,7 @@ use node_addr::layout::NODE_LEN;
 use params::{Params, default, in_range};
 
 // `number` is 0, or that of the refusal: 3, or 1 where the settings are out of range.
-#[derive(Drop)]
+#[derive(Clone, Copy)]
 pub struct ReadNew {
     pub number: u8,
     pub me: NodeAddr,
@@ -24,7 +24,7 @@ pub struct ReadNew {
     pub params: Params,
 }
 
-#[derive(Drop)]
+#[derive(Clone, Copy)]
 pub struct SpansAt {
     pub ok: bool,
     pub unheard: u64,
@@ -37,7 +37,7 @@ pub struct SpansAt {
     pub at: usize,
 }
 
-#[derive(Drop)]
+#[derive(Clone, Copy)]
 pub struct ParamsAt {
     pub ok: bool,
     pub value: Params,

@@ -13,7 +13,7 @@ use legs_entry::at::{answers_at, deadline_at, has_next_at, next_at};
 use node_addr::Found;
 
 // `at` counts only if `some`.
-#[derive(Drop)]
+#[derive(Clone, Copy)]
 pub struct Wake {
     pub some: bool,
     pub at: u64,

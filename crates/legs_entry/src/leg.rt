@@ -12,7 +12,7 @@ use params::Params;
 use params::time::deadline;
 
 // `next` is 0 unless `has_next`, `peer` zeros unless `has_peer`. A dial (not `answer`) has `answer_sent` to `digest` and `msg2` blank.
-#[derive(Drop)]
+#[derive(Clone, Copy)]
 pub struct Leg {
     pub link: LinkNo,
     pub deadline: u64,
@@ -32,7 +32,7 @@ pub struct Leg {
 }
 
 // When the next resend is due; `at` is 0 unless `some`.
-#[derive(Drop)]
+#[derive(Clone, Copy)]
 pub struct Again {
     pub some: bool,
     pub at: u64,

@@ -4,7 +4,7 @@ pub use links_entry::record::{Dir, LinkRec, Path, Proven};
 use node_addr::Pair;
 
 // The connections to close, in order: the first `len` pairs.
-#[derive(Drop)]
+#[derive(Clone, Copy)]
 pub struct Closes {
     pub len: usize,
     pub pairs: [Pair; ADDRESS_CAP],

@@ -9,40 +9,40 @@ pub mod same;
 ghost use Rattle.std.specs.Prelude.{◌≡◌};
 ghost use Rattle.node_addr.specs.View.{blank_digest, blank_pair, blank_message};
 
-#[derive(Drop)]
+#[derive(Clone, Copy)]
 pub struct NodeAddr(pub [u8; 16]);
 
-#[derive(Drop)]
+#[derive(Clone, Copy)]
 pub struct LinkNo(pub u64);
 
-#[derive(Drop)]
+#[derive(Clone, Copy)]
 pub struct TransportId(pub u32);
 
-#[derive(Drop)]
+#[derive(Clone, Copy)]
 pub struct Digest(pub [u8; 32]);
 
 // Zeros past `len`.
-#[derive(Drop)]
+#[derive(Clone, Copy)]
 pub struct Addr {
     pub len: usize,
     pub bytes: [u8; 48],
 }
 
-#[derive(Drop)]
+#[derive(Clone, Copy)]
 pub struct Pair {
     pub transport: TransportId,
     pub addr: Addr,
 }
 
 // Zeros past `len`.
-#[derive(Drop)]
+#[derive(Clone, Copy)]
 pub struct Message {
     pub len: usize,
     pub bytes: [u8; 128],
 }
 
 // The answer of a search.
-#[derive(Drop)]
+#[derive(Clone, Copy)]
 pub enum Found {
     At(usize),
     Nothing,

@@ -13,7 +13,7 @@ ghost use Rattle.output_code.specs.Codes.{why_of, build_of, transition_of};
 use gates_types::{Denial, Refusal, Source};
 
 // Why a held peer goes.
-#[derive(Drop)]
+#[derive(Clone, Copy)]
 pub enum Why {
     Restart,
     Replacement,
@@ -27,14 +27,14 @@ pub enum Why {
 }
 
 // How a session is built.
-#[derive(Drop)]
+#[derive(Clone, Copy)]
 pub enum Build {
     Fresh,
     FromCarry,
 }
 
 // What becomes of a held peer's session.
-#[derive(Drop)]
+#[derive(Clone, Copy)]
 pub enum Transition {
     Promote,
     Replace,

@@ -12,7 +12,7 @@ ghost use Rattle.params.specs.View.{view_params};
 use crate::layout::{COUNTED_MOST, REPLAYS_MOST};
 
 // Spans are nanoseconds.
-#[derive(Drop)]
+#[derive(Clone, Copy)]
 pub struct Params {
     pub unheard: u64,
     pub interval: u64,

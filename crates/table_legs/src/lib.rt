@@ -22,7 +22,7 @@ use params::Params;
 use table_layout::layout::{LEGS, LEGS_END};
 
 // Where bytes stand in the table.
-#[derive(Drop)]
+#[derive(Clone, Copy)]
 pub struct Run {
     pub at: usize,
     pub len: usize,

@@ -8,7 +8,7 @@ use crate::layout::OUT_LEN;
 use crate::session::{Phase, step};
 
 // Where the session stands after a tape, how many bytes of the buffer are written, and whether no record was left.
-#[derive(Drop)]
+#[derive(Clone, Copy)]
 pub struct Ran {
     pub phase: Phase,
     pub len: usize,

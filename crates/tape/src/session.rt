@@ -10,7 +10,7 @@ use settle::layout::BUFFER_LEN;
 use settle::{call, new};
 
 // Where a session stands: no record yet; a table was made; the first record was refused.
-#[derive(Drop)]
+#[derive(Clone, Copy)]
 pub enum Phase {
     Before,
     Running,
@@ -18,7 +18,7 @@ pub enum Phase {
 }
 
 // The phase after a record, and how many bytes of the buffer are what was written for it.
-#[derive(Drop)]
+#[derive(Clone, Copy)]
 pub struct Next {
     pub phase: Phase,
     pub len: usize,

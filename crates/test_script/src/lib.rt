@@ -11,7 +11,7 @@ ghost use Rattle.test_script.specs.Step.{digit, with_digit, Runs, Reads, Fives, 
 
 use std::num::wrapping_add_u64;
 
-#[derive(Drop)]
+#[derive(Clone, Copy)]
 pub struct Step {
     pub word: u8,
     pub a: u64,
@@ -22,13 +22,13 @@ pub struct Step {
     pub at: usize,
 }
 
-#[derive(Drop)]
+#[derive(Clone, Copy)]
 struct Number {
     value: u64,
     at: usize,
 }
 
-#[derive(Drop)]
+#[derive(Clone, Copy)]
 struct Five {
     a: u64,
     b: u64,

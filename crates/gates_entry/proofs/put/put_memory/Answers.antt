@@ -1,0 +1,6 @@
+use Rattle.lib_laws.specs.Splice.{wrote_then}
+use Rattle.gates_entry.specs.Entry.{put_memory_is}
+use Rattle.gates_entry.proofs.put.put_memory.Goals as goal
+
+pub returns : goal.returns
+returns c = put_memory_is _ (wrote_then (wrote_then c.put_front-a.ensures c.put_silence-b.ensures) c.put_replays.ensures)

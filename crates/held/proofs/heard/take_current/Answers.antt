@@ -1,0 +1,10 @@
+use Rattle.held.specs.Change.{current_kept, current_changed}
+use mathlib.Core.Path.{sym, ◌∙◌}
+use borrow.Author.Rules.{rules}
+use Rattle.held.proofs.heard.take_current.Goals as goal
+
+pub returns-then-stays : goal.returns-then-stays
+returns-then-stays c = current_kept _ _ c.requires.fit_held (sym c.requires.stays_value ∙ c.if-stays.true)
+
+pub returns : goal.returns
+returns c = rw c.load_wire_pair-p.ensures.result_value at (current_changed _ c.load_wire_pair-p.ensures.fit_pair c.put_pair.ensures c.requires.fit_held c.requires.i_bound (search rules))

@@ -1,0 +1,26 @@
+use Rattle.input_cursor.specs.Row.{stepping}
+use Rattle.input_cursor.proofs.next_u32.Goals as goal
+
+pub slice_bounds-read_u32-count : goal.slice_bounds-read_u32-count
+slice_bounds-read_u32-count c = search stepping
+
+pub slice_bounds-read_u32-start : goal.slice_bounds-read_u32-start
+slice_bounds-read_u32-start c = search stepping
+
+pub slice_bounds-read_u32-end : goal.slice_bounds-read_u32-end
+slice_bounds-read_u32-end c = search stepping
+
+pub read_u32-w-requires : goal.read_u32-w-requires
+read_u32-w-requires c = search stepping
+
+pub overflow_add-result : goal.overflow_add-result
+overflow_add-result c = search stepping
+
+pub returns-then-w : goal.returns-then-w
+returns-then-w c = search stepping
+
+pub returns-else-w : goal.returns-else-w
+returns-else-w c = search stepping
+
+pub returns-else-ok : goal.returns-else-ok
+returns-else-ok c = search stepping

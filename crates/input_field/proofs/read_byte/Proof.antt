@@ -1,7 +1,0 @@
-use Rattle.input_field.specs.Parsed.{telling}
-use borrow.Author.Rules.{rules}
-use Rattle.input_field.proofs.read_byte.Statement.{statement}
-use Rattle.input_field.proofs.read_byte.Tie as tie
-
-pub read_byte_spec : {M : Type 1} → statement M
-read_byte_spec = tie.close (tie.spec (λ c. search telling) (λ c κs. search rules) (λ c. search telling))

@@ -1,0 +1,10 @@
+-- Facts that a lemma gives at once, for a record that names them: two, three, four.
+
+pub both : {A B C : Type 0} → (A → B → C) → A × B → C
+both f p = f p.0 p.1
+
+pub both_3 : {A B C D : Type 0} → (A → B → C → D) → A × (B × C) → D
+both_3 f p = f p.0 p.1.0 p.1.1
+
+pub both_4 : {A B C D E : Type 0} → (A → B → C → D → E) → A × (B × (C × D)) → E
+both_4 f p = f p.0 p.1.0 p.1.1.0 p.1.1.1

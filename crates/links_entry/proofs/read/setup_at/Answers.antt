@@ -1,0 +1,15 @@
+-- `links_entry::read::setup_at` meets its contract.
+use Rattle.links_entry.specs.Here.{reading}
+use Rattle.links_entry.proofs.read.setup_at.Goals as goal
+
+pub overflow_mul-i : goal.overflow_mul-i
+overflow_mul-i c = search reading
+
+pub overflow_add-i : goal.overflow_add-i
+overflow_add-i c = search reading
+
+pub load_pair-requires : goal.load_pair-requires
+load_pair-requires c = search reading
+
+pub returns : goal.returns
+returns c = search reading

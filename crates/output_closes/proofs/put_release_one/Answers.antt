@@ -1,0 +1,12 @@
+use native.Mathlib.Omega.{arith}
+use Rattle.lib_laws.specs.Splice.{wrote_then}
+use mathlib.Core.List.{[], ◌∷◌}
+use Rattle.rules.specs.Data.{Output}
+use Rattle.rules.specs.Output.{output_bytes}
+use Rattle.output_field.specs.Part.{written}
+use Rattle.output_closes.specs.Lists.{list_one}
+use Rattle.output_closes.proofs.put_release_one.Goals as goal
+
+pub returns : goal.returns
+unfolding output_bytes
+returns c = written (Output.Release _ (_ ∷ [])) _ _ c.put_frame-a.ensures (wrote_then c.put_be-b.ensures (list_one _ (wrote_then c.put_be-c.ensures c.put_pair.ensures))) (omega arith) (omega arith)

@@ -1,0 +1,9 @@
+use mathlib.Core.Path.{refl}
+use Rattle.rules.specs.Data.{Retry}
+use Rattle.rules.specs.Output.{output_bytes}
+use Rattle.output_field.specs.Part.{written}
+use Rattle.output_record.proofs.put.put_retry.Goals as goal
+
+pub returns : goal.returns
+unfolding output_bytes
+returns c = written (Retry _) _ _ c.put_frame-a.ensures c.put_node.ensures refl refl

@@ -1,0 +1,9 @@
+-- `params::time::younger` meets its contract.
+use Rattle.params.specs.Later.{timing}
+use Rattle.params.proofs.time.younger.Goals as goal
+
+pub age-requires : goal.age-requires
+age-requires c = search timing
+
+pub returns : goal.returns
+returns c = search timing
