@@ -234,6 +234,8 @@ class Function:
             return "c" + "".join("." + s for s in ["type_inv", self.typed[head]] + rest[1:])
         if head not in self.steps and head.endswith("_lem"):
             head = head[:-4]
+        if head not in self.steps and head[0].lower() + head[1:] in self.steps:
+            head = head[0].lower() + head[1:]
         for n in range(len(rest), 0, -1):
             field = self.arms.get(head, {}).get(tuple(rest[:n]))
             if field and not field.endswith("-own"):
