@@ -8,8 +8,8 @@ use Prim.Native.Nat.{ℕ}
 use mathlib.Core.List.{[], ◌∷◌, List}
 use lib.ListN.{length}
 use seplogic.Ra.Ura.{Ura}
-use seplogic.Ra.TreeShare.{full_share}
-use mir.Syntax.{Sym, Name, Fn, local, value_local, ty_int, ty_ref, mut, imm, named, erased, w8, w64, place, deref, field as at_field, copy, rv_opd, addr_of, aggregate, seq, assign, call, return}
+use base.Fraction.{full_share}
+use mir.Syntax.{Sym, Callee, Fn, local, value_local, ty_int, ty_ref, mut, imm, named, erased, w8, w64, place, deref, field as at_field, copy, rv_opd, addr_of, aggregate, seq, assign, call, return}
 use mir.Val.{Val, vint, vptr}
 use base.Logic.{SProp, ent, id⊢}
 use base.Fml.{GName, Lft, Share, Fml, ftrue, fat, flft, fobs, fbor}
@@ -53,10 +53,12 @@ module _ (T : Declared) (Lt : LL.Laws T) (PT : Plains (fields T)) (lw : LL.Lower
   LR = (LL.field_laws T Lt lw, (LL.u64-laws, tt))
 
   -- ---- f's MIR, and the two signatures
-  abbrev pub fn : Name → Fn
+  abbrev pub fn : Callee → Fn
   fn g = record {
     lifetimes = 3;
     outlives = [];
+    ty_params = [];
+    givens = 0;
     params = 3;
     locals = local (ty_int w64) value_local ∷ local (ty_ref (named 0) mut (pointee (row T).written)) value_local ∷ local (slice_ty (ty_ref (named 1) imm (ty_int w8))) value_local ∷ local (slice_ty (ty_ref (named 2) mut (ty_int w8))) value_local
         ∷ local (layout (shape R)) value_local ∷ local (layout (shape T)) value_local ∷ local (ty_ref erased mut (ty_int w8)) value_local ∷ local (slice_ty (ty_ref erased mut (ty_int w8))) value_local ∷ [];
@@ -105,7 +107,7 @@ module _ (T : Declared) (Lt : LL.Laws T) (PT : Plains (fields T)) (lw : LL.Lower
       s₁ = slice_val x₁.ref_ptr (length x₁.now)
 
       abbrev s₂ : Val
-      s₂ = slice_val x₂.ptr (length x₂.now)
+      s₂ = slice_val x₂.ref_ptr (length x₂.now)
 
       abbrev a : Bor T.D × (Bor (List ℕ) × (Bor (List ℕ) × Unit {0}))
       a = (record { ref_ptr = (b, o); ghost_name = γ; now = h }, (x₁, (x₂, tt)))
@@ -135,7 +137,7 @@ module _ (T : Declared) (Lt : LL.Laws T) (PT : Plains (fields T)) (lw : LL.Lower
       owed r v = LL.owed R LR r (v ∷ [])
 
       abbrev Left : RD → List ℕ → List (Item 𝓤)
-      Left r zs = ‵ (fobs γ ((row T).coded.code (table r))) ∷ ‵ (fbor κ (Body (mem (row T)) b o γ)) ∷ ‵ (flft κ q) ∷ Tokens ∷ ‵ (finally u8 x₂.name zs) ∷ raw (E h x₁ x₂ (table r) (word r) (at_last x₂ zs)) ∷ []
+      Left r zs = ‵ (fobs γ ((row T).coded.code (table r))) ∷ ‵ (fbor κ (Body (mem (row T)) b o γ)) ∷ ‵ (flft κ q) ∷ Tokens ∷ ‵ (finally u8 x₂.ghost_name zs) ∷ raw (E h x₁ x₂ (table r) (word r) (at_last x₂ zs)) ∷ []
 
       exits : (r : RD) (zs : List ℕ) → Is u64 (word r) (vint w64 (word r) ∷ []) → length zs ≡ length x₂.now → ent 𝓤 (⋆ 𝓛 (Left r zs)) (Post (vint w64 (word r)))
       exits r zs w l =
@@ -146,7 +148,7 @@ module _ (T : Declared) (Lt : LL.Laws T) (PT : Plains (fields T)) (lw : LL.Lower
           nothing ! $ move ! (3 ∷ 0 ∷ []) $ fjoin ! $ nothing ! $ fjoin ! $ move ! (1 ∷ 0 ∷ []) $ fjoin ! $
           owned ! u64 (Is u64) (uint_Makes 𝓛 w64) (word r) _ w $ move ! (1 ∷ 0 ∷ []) $ join ! $ move ! (1 ∷ 0 ∷ []) $ join ! $ frame ! $ done !
 
-      module _ (C : Calls 𝓤 H) (Λ : Loops 𝓤 H) (g : Name) (fm : FmC 𝓤 H 𝓛.laws C) (known : Triple 𝓤 (C g) G) where
+      module _ (C : Calls 𝓤 H) (Λ : Loops 𝓤 H) (g : Callee) (fm : FmC 𝓤 H 𝓛.laws C) (known : Triple 𝓤 (C g) G) where
         walk : Is (ShrSlice (named 1) κ₁ u8) x₁ (s₁ ∷ []) → Is (MutSlice (named 2) κ₂ u8) x₂ (s₂ ∷ [])
             → ent 𝓤 (⋆ 𝓛 (((‵ (flft κ q) ⊛ Tokens) ⊛ ‵ (owns (MutRef (named 0) κ (row T) ∷ ShrSlice (named 1) κ₁ u8 ∷ MutSlice (named 2) κ₂ u8 ∷ []) a vals)) ∷ raw (Q h x₁ x₂) ∷ [])) (WpFn 𝓤 H C Λ (fn g) (vptr b o ∷ s₁ ∷ s₂ ∷ []) Post)
         walk is₁ is₂ =
@@ -180,12 +182,12 @@ module _ (T : Declared) (Lt : LL.Laws T) (PT : Plains (fields T)) (lw : LL.Lower
             move ! (21 ∷ 22 ∷ []) $ free1 ! $ move ! (19 ∷ 20 ∷ []) $ free1 ! $ move ! (17 ∷ 18 ∷ []) $ free1 ! $ move ! (15 ∷ 16 ∷ []) $ free1 ! $ move ! (13 ∷ 14 ∷ []) $ free1 ! $ move ! (11 ∷ 12 ∷ []) $ free1 ! $ move ! (9 ∷ 10 ∷ []) $ free1 ! $ move ! (7 ∷ 8 ∷ []) $ free1 ! $ free0 ! $
             keep ! (0 ∷ 1 ∷ 2 ∷ 3 ∷ 4 ∷ 6 ∷ []) $ by ! (exits r zs.1.1.0 (owed r v is').1.0 l))))))))))))))))
 
-    walks : (C : Calls 𝓤 H) (Λ : Loops 𝓤 H) (g : Name) → FmC 𝓤 H 𝓛.laws C → Triple 𝓤 (C g) G → Walks 𝓛 ended_f stayed (WpFn 𝓤 H C Λ (fn g)) clauses_f
+    walks : (C : Calls 𝓤 H) (Λ : Loops 𝓤 H) (g : Callee) → FmC 𝓤 H 𝓛.laws C → Triple 𝓤 (C g) G → Walks 𝓛 ended_f stayed (WpFn 𝓤 H C Λ (fn g)) clauses_f
     walks C Λ g fm known = walked 𝓛 ended_f stayed clauses_f (WpFn 𝓤 H C Λ (fn g)) (λ κs. (shr_vals, (shr_slice_vals, (shr_slice_vals, tt))))
         (λ κs. (mut_Tells (named 0) κs.0 (row T), (shr_slice_Tells (named 1) κs.1.0 u8, (mut_slice_Tells (named 2) κs.1.1.0 u8, tt))))
-        (λ κs qs bounds a _ are. walk κs.0 κs.1.0 κs.1.1.0 qs.0 qs.1.0 qs.1.1.0 a.0.ptr.0 a.0.ptr.1 a.0.name a.0.now a.1.0 a.1.1.0 C Λ g fm known are.1.0 are.1.1.0)
+        (λ κs qs bounds a _ are. walk κs.0 κs.1.0 κs.1.1.0 qs.0 qs.1.0 qs.1.1.0 a.0.ref_ptr.0 a.0.ref_ptr.1 a.0.ghost_name a.0.now a.1.0 a.1.1.0 C Λ g fm known are.1.0 are.1.1.0)
 
-    pub thin : (𝓣 : Tables 𝓤 H) (g : Name) → Triple 𝓤 (𝓣.C g) G → Meets 𝓛 ended_f.signature (WpFn 𝓤 H 𝓣.C 𝓣.Λ (fn g)) (closing 𝓛 ended_f clauses_f)
+    pub thin : (𝓣 : Tables 𝓤 H) (g : Callee) → Triple 𝓤 (𝓣.C g) G → Meets 𝓛 ended_f.signature (WpFn 𝓤 H 𝓣.C 𝓣.Λ (fn g)) (closing 𝓛 ended_f clauses_f)
     thin 𝓣 g known =
         walk_Meets 𝓛 ended_f stayed
         (Goes-ref 𝓛 3 0 tt (plain (λ _. row T)), (Goes-dropped 𝓛 3 (shr_slice_of (1 ∷ []) tt (plain (λ _. u8))) yes (λ κs x f. refl), (Goes-gave_slice 𝓛 3 2 tt (plain (λ _. u8)), tt)))
