@@ -3,7 +3,8 @@
 --     fn                the MIR of f
 --     Q, E              the contract: `requires` is Q (table, input, output), and `ensures` is E (table, input, output; table, word, output at exit)
 --     thin              where g meets it, f does
-use mathlib.Core.Path.{◌≡◌, refl, ap}
+use mathlib.Core.Path.{◌≡◌, refl, sym, ◌∙◌, ap}
+use mathlib.Core.HLevel.{is_prop→PathP}
 use Prim.Native.Nat.{ℕ}
 use mathlib.Core.List.{[], ◌∷◌, List}
 use lib.ListN.{length}
@@ -13,25 +14,28 @@ use mir.Syntax.{Sym, Callee, Fn, local, value_local, ty_int, ty_ref, mut, imm, n
 use mir.Val.{Val, vint, vptr}
 use base.Logic.{SProp, ent, id⊢}
 use base.Fml.{GName, Lft, Share, Fml, ftrue, fat, flft, fobs, fbor}
+use base.Stored.{Coded-set, coded_via}
 use prog.Wp.{Calls, Loops, WpFn, Tables}
 use types.Logic.{Logic}
 use types.Kit.{Item, ‵, raw, some, later, ◌⊛◌, ⋆, ◌$◌, ◌∵◌, !, qed, by, move, keep, drop, use1, use3, split, join, pick, rewrite, fsplit, fsplit3, fjoin, fjoin3, feq_l, feq_i, suffices, frame, await, done}
 use types.Run.{look, look_raw, init, store_raw, forget, stop, hop, fld, from, load, addr, of_opd, and_then, no_more, assigns, land, returns, enter, alloc1, alloc0, params1, pass1, pass0, free1, free0}
 use types.Part.{agg, whole, sub, look_in}
-use types.SemTy.{Body}
+use types.SemTy.{Body, Arr}
+use types.Hole.{Holey}
 use sound.WpLaws.{FmC, fm_of, WpFn-mono}
 use denote.RattleType.{Denots, owns}
 use denote.Memory.{mem, pointee}
 use denote.Laws.{Is, shows}
 use denote.Plain.{uint_Makes}
 use denote.Builtin.{u8, u64}
-use denote.Ref.{Bor, MutBor, MutRef, at_last, shr_vals, mut_Tells}
-use denote.Slice.{slice_ty, slice_val, shr_slice_vals, MutSlice, ShrSlice, finally, shr_slice_Tells, mut_slice_Tells, shr_slice_Lawful, mut_slice_Lawful}
+use denote.Ref.{Bor, MutBor, MutRef, at_last, mut_vals, mut_Tells}
+use denote.Slice.{slice_ty, slice_val, shr_slice_vals, mut_slice_vals, MutSlice, ShrSlice, finally, shr_slice_Tells, mut_slice_Tells, shr_slice_Lawful, mut_slice_Lawful}
 use denote.Signature.{plain, mut_ref_to, shr_slice_of, mut_slice_of}
 use denote.Steps.{only, opens, closes, owned, peeks, nothing}
 use denote.Struct.Steps.{spelt}
-use denote.Struct.Struct.{Plains, layout}
-use denote.Struct.Field.{u64-field, rows}
+use denote.Struct.Struct.{Plains, layout, codeds}
+use denote.Struct.Field.{Field, u64-field, rows}
+use denote.Struct.Values.{Values, intos, intos_one}
 use denote.Struct.Declared.{Declared, fields, shape, row, field}
 use denote.Struct.Laws as LL
 use denote.Triple.Spec.{Meets, triple_of}
@@ -46,8 +50,38 @@ to_R T RD table word r = (T.to (table r), (word r, tt))
 
 module _ (T : Declared) (Lt : LL.Laws T) (PT : Plains (fields T)) (lw : LL.Lowered T) (ν : Sym) (RD : Type 0) (table : RD → T.D) (word : RD → ℕ)
     (one : (x y : RD) → to_R T RD table word x ≡ to_R T RD table word y → x ≡ y) where
+  -- the struct's parts, and that it is one to one with them. A `Declared` of today holds that every tuple of values that its `Ghost` allows is some record's: here it allows those that are some record's
+  abbrev parts_R : List Field
+  parts_R = field T ∷ u64-field ∷ []
+
+  abbrev values_R : RD → Values parts_R
+  values_R r = (table r, (word r, tt))
+
+  values_set : IsSet (Values parts_R)
+  values_set = Coded-set (coded_via (codeds (rows parts_R)) (intos parts_R) (intos_one parts_R))
+
+  abbrev Some : Values parts_R → Type 0
+  Some v = (r : RD) × (values_R r ≡ v)
+
+  pub some_one : (v : Values parts_R) → IsProp (Some v)
+  some_one v x y =
+      let e : x.0 ≡ y.0 = one x.0 y.0 (ap (intos parts_R) (x.1 ∙ sym y.1)) in
+      λ i. (e i, is_prop→PathP (λ j. values_R (e j) ≡ v) (λ j. values_set (values_R (e j)) v) x.1 y.1 i)
+
   abbrev pub R : Declared
-  R = record { name = ν; args = []; parts = field T ∷ u64-field ∷ []; D = RD; to = to_R T RD table word; to_one = one }
+  R = record {
+    name = ν;
+    args = [];
+    types = [];
+    parts = parts_R;
+    D = RD;
+    to = to_R T RD table word;
+    to_one = one;
+    as_values = values_R;
+    to_is = λ r. refl;
+    cover = record { Ghost = Some; ghosts = λ r. (r, refl); make = λ v x. x.0; eta = λ r. refl; beta = λ v x. x.1 };
+    propositions = some_one;
+  }
 
   abbrev LR : LL.Laws R
   LR = (LL.field_laws T Lt lw, (LL.u64-laws, tt))
@@ -90,7 +124,7 @@ module _ (T : Declared) (Lt : LL.Laws T) (PT : Plains (fields T)) (lw : LL.Lower
   v_t = LL.val T Lt
 
   module _ {M : Type 1} {𝓤 : Ura M} (𝓛 : Logic 𝓤)
-      (Q : T.D → Bor (List ℕ) → Bor (List ℕ) → SProp 𝓤) (E : T.D → Bor (List ℕ) → Bor (List ℕ) → T.D → ℕ → Bor (List ℕ) → SProp 𝓤) where
+      (Q : T.D → Bor (List ℕ) → MutBor (List ℕ) → SProp 𝓤) (E : T.D → Bor (List ℕ) → MutBor (List ℕ) → T.D → ℕ → MutBor (List ℕ) → SProp 𝓤) where
     open 𝓛 use {H}
 
     abbrev pub clauses_f : Clauses 𝓤 ended_f
@@ -102,14 +136,14 @@ module _ (T : Declared) (Lt : LL.Laws T) (PT : Plains (fields T)) (lw : LL.Lower
     abbrev pub G : Contract 𝓤
     G = triple_of 𝓛 ended_g.signature (closing 𝓛 ended_g clauses_g)
 
-    module _ (κ κ₁ κ₂ : Lft) (q q₁ q₂ : Share) (b o : ℕ) (γ : GName) (h : T.D) (x₁ x₂ : MutBor (List ℕ)) where
+    module _ (κ κ₁ κ₂ : Lft) (q q₁ q₂ : Share) (b o : ℕ) (γ : GName) (h : T.D) (x₁ : Bor (List ℕ)) (x₂ : MutBor (List ℕ)) where
       abbrev s₁ : Val
       s₁ = slice_val x₁.ref_ptr (length x₁.now)
 
       abbrev s₂ : Val
       s₂ = slice_val x₂.ref_ptr (length x₂.now)
 
-      abbrev a : Bor T.D × (Bor (List ℕ) × (Bor (List ℕ) × Unit {0}))
+      abbrev a : MutBor T.D × (Bor (List ℕ) × (MutBor (List ℕ) × Unit {0}))
       a = (record { ref_ptr = (b, o); ghost_name = γ; now = h }, (x₁, (x₂, tt)))
 
       abbrev vals : List Val × (List Val × (List Val × Unit {0}))
@@ -136,16 +170,20 @@ module _ (T : Declared) (Lt : LL.Laws T) (PT : Plains (fields T)) (lw : LL.Lower
       owed : (r : RD) (v : Val) → Is (row R) r (v ∷ []) → Is (row T) (table r) (v_t (table r) ∷ []) × (Is u64 (word r) (vint w64 (word r) ∷ []) × Unit {0})
       owed r v = LL.owed R LR r (v ∷ [])
 
+      -- the output's borrow, which the callee hands back
+      abbrev Out : Fml
+      Out = fbor κ₂ (Body (Arr (Holey (mem u8)) (length x₂.now)) x₂.ref_ptr.0 x₂.ref_ptr.1 x₂.ghost_name)
+
       abbrev Left : RD → List ℕ → List (Item 𝓤)
-      Left r zs = ‵ (fobs γ ((row T).coded.code (table r))) ∷ ‵ (fbor κ (Body (mem (row T)) b o γ)) ∷ ‵ (flft κ q) ∷ Tokens ∷ ‵ (finally u8 x₂.ghost_name zs) ∷ raw (E h x₁ x₂ (table r) (word r) (at_last x₂ zs)) ∷ []
+      Left r zs = ‵ (fobs γ ((row T).coded.code (table r))) ∷ ‵ (fbor κ (Body (mem (row T)) b o γ)) ∷ ‵ (flft κ q) ∷ Tokens ∷ ‵ (finally u8 x₂.ghost_name zs) ∷ ‵ Out ∷ raw (E h x₁ x₂ (table r) (word r) (at_last x₂ zs)) ∷ []
 
       exits : (r : RD) (zs : List ℕ) → Is u64 (word r) (vint w64 (word r) ∷ []) → length zs ≡ length x₂.now → ent 𝓤 (⋆ 𝓛 (Left r zs)) (Post (vint w64 (word r)))
       exits r zs w l =
           qed 𝓛 (Left r zs) ∵
           suffices ! _ (ends_at 𝓛 ended_f stayed clauses_f (((κ, (κ₁, (κ₂, tt))), (q, (q₁, (q₂, tt))), tt, a, vals), tt) (vint w64 (word r)) (word r) (table r, (tt, (zs, tt))) (tt, (tt, (l, tt)))) $
           move ! (2 ∷ 3 ∷ []) $ join ! $ move ! (1 ∷ 2 ∷ []) $ feq_i ! (List Val) (vptr b o ∷ []) (vptr b o ∷ []) refl $ fjoin3 ! $
-          -- [what t owns; the tokens; the last list; E]
-          nothing ! $ move ! (3 ∷ 0 ∷ []) $ fjoin ! $ nothing ! $ fjoin ! $ move ! (1 ∷ 0 ∷ []) $ fjoin ! $
+          -- [what t owns; the tokens; the last list; the output's borrow; E]
+          move ! (2 ∷ 3 ∷ []) $ fjoin ! $ nothing ! $ move ! (1 ∷ 0 ∷ []) $ fjoin ! $ nothing ! $ fjoin ! $ move ! (1 ∷ 0 ∷ []) $ fjoin ! $
           owned ! u64 (Is u64) (uint_Makes 𝓛 w64) (word r) _ w $ move ! (1 ∷ 0 ∷ []) $ join ! $ move ! (1 ∷ 0 ∷ []) $ join ! $ frame ! $ done !
 
       module _ (C : Calls 𝓤 H) (Λ : Loops 𝓤 H) (g : Callee) (fm : FmC 𝓤 H 𝓛.laws C) (known : Triple 𝓤 (C g) G) where
@@ -169,21 +207,21 @@ module _ (T : Declared) (Lt : LL.Laws T) (PT : Plains (fields T)) (lw : LL.Lower
             use1 𝓛 (later (some (λ (r : RD). (Tokens ⊛ ‵ ((row R).own_val r (v ∷ []))) ⊛ raw (ensured 𝓛 ended_g clauses_g (κ₁, (κ₂, tt)) (h, (x₁, (x₂, tt))) tt r)))) (id⊢ 𝓤 _) $ await ! tt $ pick ! (λ r. split ! $ move ! (1 ∷ []) $
             use1 𝓛 (some (λ (zs : Lasts ended_g (κ₁, (κ₂, tt)) (h, (x₁, (x₂, tt)))). ‵ (lasts ended_g (κ₁, (κ₂, tt)) (h, (x₁, (x₂, tt))) zs) ⊛ raw (E h x₁ x₂ (table r) (word r) (at_last x₂ zs.1.1.0)))) (id⊢ 𝓤 _) $ pick ! (λ zs. split ! $
             -- [the last values; E; the tokens and the result; the table's cell; …]
-            fsplit ! $ drop ! $ fsplit ! $ drop ! $ fsplit ! $ fsplit ! $ move ! (1 ∷ []) $ feq_l ! (λ l. move ! (3 ∷ []) $ split ! $ move ! (1 ∷ []) $
+            fsplit ! $ drop ! $ fsplit ! $ drop ! $ fsplit ! $ fsplit ! $ fsplit ! $ move ! (1 ∷ []) $ feq_l ! (λ l. move ! (2 ∷ []) $ drop ! $ move ! (3 ∷ []) $ split ! $ move ! (1 ∷ []) $
             peeks ! (row R) (Is (row R)) (shows 𝓛 (row R)) r (v ∷ []) (λ is'. drop ! $
-            -- [the tokens; the last list; true; E; the table's cell (4); the open borrow; obs; auth; _7 (8); …; _6 (10); …; _5 (12); …; _4 (14); …; _3 (16); …; _2 (18); …; _1 (20); …; room for _0 (22); …]
+            -- [the tokens; the last list; the output's borrow; E; the table's cell (4); the open borrow; obs; auth; _7 (8); …; _6 (10); …; _5 (12); …; _4 (14); …; _3 (16); …; _2 (18); …; _1 (20); …; room for _0 (22); …]
             land ! (from ! (stop !)) (init ! 14 refl ((LL.lawful R LR 𝓛).typed r _ is').0) $ rewrite ! 14 (λ (u : Val). ‵ (fat full_share (layout (shape R)) l₄ 0 u)) (ap only (LL.tells R LR r (v ∷ []) is')) refl $
             assigns ! (of_opd ! (load ! (from ! (fld ! refl (stop !))) (look_in ! 14 (sub ! 0 refl (whole !))))) (from ! (hop ! (look ! 20 refl) (stop !))) (store_raw ! 4 refl ((LL.lawful T Lt 𝓛).typed (table r) _ (owed r v is').0).0) $
             assigns ! (of_opd ! (load ! (from ! (fld ! refl (stop !))) (look_in ! 14 (sub ! 1 refl (whole !))))) (from ! (stop !)) (init ! 22 refl (tt, record { fits = (owed r v is').1.0.1 })) $
             -- the borrow is closed at the new table
             move ! (4 ∷ 5 ∷ 6 ∷ 7 ∷ []) $ owned ! (row T) (Is (row T)) (LL.makes T PT 𝓛) (table r) _ (owed r v is').0 $ move ! (1 ∷ 0 ∷ []) $ closes ! tt (row T) (table r) (v_t (table r) ∷ []) b o $
-            -- [obs; the borrow; κ; the tokens; the last list; true; E; _7 (7); …; room for _0 (21); …]
+            -- [obs; the borrow; κ; the tokens; the last list; the output's borrow; E; _7 (7); …; room for _0 (21); …]
             returns ! (look ! 21 refl) $ forget ! 7 refl $ forget ! 9 refl $ forget ! 11 refl $ forget ! 13 refl $ forget ! 15 refl $ forget ! 17 refl $ forget ! 19 refl $ forget ! 21 refl $
             move ! (21 ∷ 22 ∷ []) $ free1 ! $ move ! (19 ∷ 20 ∷ []) $ free1 ! $ move ! (17 ∷ 18 ∷ []) $ free1 ! $ move ! (15 ∷ 16 ∷ []) $ free1 ! $ move ! (13 ∷ 14 ∷ []) $ free1 ! $ move ! (11 ∷ 12 ∷ []) $ free1 ! $ move ! (9 ∷ 10 ∷ []) $ free1 ! $ move ! (7 ∷ 8 ∷ []) $ free1 ! $ free0 ! $
-            keep ! (0 ∷ 1 ∷ 2 ∷ 3 ∷ 4 ∷ 6 ∷ []) $ by ! (exits r zs.1.1.0 (owed r v is').1.0 l))))))))))))))))
+            keep ! (0 ∷ 1 ∷ 2 ∷ 3 ∷ 4 ∷ 5 ∷ 6 ∷ []) $ by ! (exits r zs.1.1.0 (owed r v is').1.0 l))))))))))))))))
 
     walks : (C : Calls 𝓤 H) (Λ : Loops 𝓤 H) (g : Callee) → FmC 𝓤 H 𝓛.laws C → Triple 𝓤 (C g) G → Walks 𝓛 ended_f stayed (WpFn 𝓤 H C Λ (fn g)) clauses_f
-    walks C Λ g fm known = walked 𝓛 ended_f stayed clauses_f (WpFn 𝓤 H C Λ (fn g)) (λ κs. (shr_vals, (shr_slice_vals, (shr_slice_vals, tt))))
+    walks C Λ g fm known = walked 𝓛 ended_f stayed clauses_f (WpFn 𝓤 H C Λ (fn g)) (λ κs. (mut_vals, (shr_slice_vals, (mut_slice_vals, tt))))
         (λ κs. (mut_Tells (named 0) κs.0 (row T), (shr_slice_Tells (named 1) κs.1.0 u8, (mut_slice_Tells (named 2) κs.1.1.0 u8, tt))))
         (λ κs qs bounds a _ are. walk κs.0 κs.1.0 κs.1.1.0 qs.0 qs.1.0 qs.1.1.0 a.0.ref_ptr.0 a.0.ref_ptr.1 a.0.ghost_name a.0.now a.1.0 a.1.1.0 C Λ g fm known are.1.0 are.1.1.0)
 
