@@ -50,7 +50,7 @@ to_R T RD table word r = (T.to (table r), (word r, tt))
 
 module _ (T : Declared) (Lt : LL.Laws T) (PT : Plains (fields T)) (lw : LL.Lowered T) (ν : Sym) (RD : Type 0) (table : RD → T.D) (word : RD → ℕ)
     (one : (x y : RD) → to_R T RD table word x ≡ to_R T RD table word y → x ≡ y) where
-  -- the struct's parts, and that it is one to one with them. A `Declared` of today holds that every tuple of values that its `Ghost` allows is some record's: here it allows those that are some record's
+  -- R as a declared type. Its record may have ghost fields: `Ghost` is that the parts are some record's, which is a proposition since a record is its parts (`one`)
   abbrev parts_R : List Field
   parts_R = field T ∷ u64-field ∷ []
 
@@ -60,11 +60,11 @@ module _ (T : Declared) (Lt : LL.Laws T) (PT : Plains (fields T)) (lw : LL.Lower
   values_set : IsSet (Values parts_R)
   values_set = Coded-set (coded_via (codeds (rows parts_R)) (intos parts_R) (intos_one parts_R))
 
-  abbrev Some : Values parts_R → Type 0
-  Some v = (r : RD) × (values_R r ≡ v)
+  abbrev Of : Values parts_R → Type 0
+  Of v = (r : RD) × (values_R r ≡ v)
 
-  pub some_one : (v : Values parts_R) → IsProp (Some v)
-  some_one v x y =
+  pub of_one : (v : Values parts_R) → IsProp (Of v)
+  of_one v x y =
       let e : x.0 ≡ y.0 = one x.0 y.0 (ap (intos parts_R) (x.1 ∙ sym y.1)) in
       λ i. (e i, is_prop→PathP (λ j. values_R (e j) ≡ v) (λ j. values_set (values_R (e j)) v) x.1 y.1 i)
 
@@ -79,8 +79,8 @@ module _ (T : Declared) (Lt : LL.Laws T) (PT : Plains (fields T)) (lw : LL.Lower
     to_one = one;
     as_values = values_R;
     to_is = λ r. refl;
-    cover = record { Ghost = Some; ghosts = λ r. (r, refl); make = λ v x. x.0; eta = λ r. refl; beta = λ v x. x.1 };
-    propositions = some_one;
+    cover = record { Ghost = Of; ghosts = λ r. (r, refl); make = λ v x. x.0; eta = λ r. refl; beta = λ v x. x.1 };
+    propositions = of_one;
   }
 
   abbrev LR : LL.Laws R
@@ -95,13 +95,14 @@ module _ (T : Declared) (Lt : LL.Laws T) (PT : Plains (fields T)) (lw : LL.Lower
     givens = 0;
     params = 3;
     locals = local (ty_int w64) value_local ∷ local (ty_ref (named 0) mut (pointee (row T).written)) value_local ∷ local (slice_ty (ty_ref (named 1) imm (ty_int w8))) value_local ∷ local (slice_ty (ty_ref (named 2) mut (ty_int w8))) value_local
-        ∷ local (layout (shape R)) value_local ∷ local (layout (shape T)) value_local ∷ local (ty_ref erased mut (ty_int w8)) value_local ∷ local (slice_ty (ty_ref erased mut (ty_int w8))) value_local ∷ [];
+        ∷ local (layout (shape R)) value_local ∷ local (layout (shape T)) value_local ∷ local (ty_ref erased mut (ty_int w8)) value_local ∷ local (slice_ty (ty_ref erased mut (ty_int w8))) value_local ∷ local (layout (shape T)) value_local ∷ [];
     body = seq (assign (place 5 []) (rv_opd (copy (place 1 (deref (layout (shape T)) ∷ [])))))
         (seq (assign (place 6 []) (addr_of (place 3 (at_field 0 ∷ deref (ty_int w8) ∷ []))))
         (seq (assign (place 7 []) (aggregate (copy (place 6 []) ∷ copy (place 3 (at_field 1 ∷ [])) ∷ [])))
         (seq (call g (copy (place 5 []) ∷ copy (place 2 []) ∷ copy (place 7 []) ∷ []) (place 4 []))
-        (seq (assign (place 1 (deref (layout (shape T)) ∷ [])) (rv_opd (copy (place 4 (at_field 0 ∷ [])))))
-        (seq (assign (place 0 []) (rv_opd (copy (place 4 (at_field 1 ∷ []))))) return)))));
+        (seq (assign (place 8 []) (rv_opd (copy (place 4 (at_field 0 ∷ [])))))
+        (seq (assign (place 1 (deref (layout (shape T)) ∷ [])) (rv_opd (copy (place 8 []))))
+        (seq (assign (place 0 []) (rv_opd (copy (place 4 (at_field 1 ∷ []))))) return))))));
   }
 
   abbrev pub ended_f : Ended
@@ -191,34 +192,35 @@ module _ (T : Declared) (Lt : LL.Laws T) (PT : Plains (fields T)) (lw : LL.Lower
             → ent 𝓤 (⋆ 𝓛 (((‵ (flft κ q) ⊛ Tokens) ⊛ ‵ (owns (MutRef (named 0) κ (row T) ∷ ShrSlice (named 1) κ₁ u8 ∷ MutSlice (named 2) κ₂ u8 ∷ []) a vals)) ∷ raw (Q h x₁ x₂) ∷ [])) (WpFn 𝓤 H C Λ (fn g) (vptr b o ∷ s₁ ∷ s₂ ∷ []) Post)
         walk is₁ is₂ =
             qed 𝓛 (((‵ (flft κ q) ⊛ Tokens) ⊛ ‵ (owns (MutRef (named 0) κ (row T) ∷ ShrSlice (named 1) κ₁ u8 ∷ MutSlice (named 2) κ₂ u8 ∷ []) a vals)) ∷ raw (Q h x₁ x₂) ∷ []) ∵ split ! $ enter ! C Λ (fn g) (vptr b o ∷ s₁ ∷ s₂ ∷ []) _ $
-            alloc1 ! (λ l₀. alloc1 ! (λ l₁. alloc1 ! (λ l₂. alloc1 ! (λ l₃. alloc1 ! (λ l₄. alloc1 ! (λ l₅. alloc1 ! (λ l₆. alloc1 ! (λ l₇. alloc0 ! $ params1 ! $
-            pass1 ! (init ! 12 refl (tt, tt)) $ pass1 ! (init ! 10 refl ((shr_slice_Lawful 𝓛 (named 1) κ₁ u8).typed x₁ _ is₁).0) $ pass1 ! (init ! 8 refl ((mut_slice_Lawful 𝓛 (named 2) κ₂ u8).typed x₂ _ is₂).0) $ pass0 ! $
-            -- [_7; …; _6; …; _5; …; _4; …; _3; …; _2; …; _1; …; room for _0; …; the tokens (16); what the parameters own (17); Q (18)]: the borrow is opened
-            move ! (17 ∷ []) $ fsplit ! $ fsplit3 ! $ drop ! $ move ! (19 ∷ []) $ split ! $ move ! (2 ∷ 3 ∷ 0 ∷ []) $
+            alloc1 ! (λ l₀. alloc1 ! (λ l₁. alloc1 ! (λ l₂. alloc1 ! (λ l₃. alloc1 ! (λ l₄. alloc1 ! (λ l₅. alloc1 ! (λ l₆. alloc1 ! (λ l₇. alloc1 ! (λ l₈. alloc0 ! $ params1 ! $
+            pass1 ! (init ! 14 refl (tt, tt)) $ pass1 ! (init ! 12 refl ((shr_slice_Lawful 𝓛 (named 1) κ₁ u8).typed x₁ _ is₁).0) $ pass1 ! (init ! 10 refl ((mut_slice_Lawful 𝓛 (named 2) κ₂ u8).typed x₂ _ is₂).0) $ pass0 ! $
+            -- [_8; …; _7; …; _6; …; _5; …; _4; …; _3; …; _2; …; _1; …; room for _0; …; the tokens (18); what the parameters own (19); Q (20)]: the borrow is opened
+            move ! (19 ∷ []) $ fsplit ! $ fsplit3 ! $ drop ! $ move ! (21 ∷ []) $ split ! $ move ! (2 ∷ 3 ∷ 0 ∷ []) $
             opens ! tt (row T) {h = h} b o (λ vs. spelt ! (row T) (Is (row T)) (shows 𝓛 (row T)) (LL.vals T Lt) (LL.tells T Lt) full_share h vs b o $
             move ! (1 ∷ []) $ peeks ! (row T) (Is (row T)) (shows 𝓛 (row T)) h (v_t h ∷ []) (λ is. drop ! $
-            -- [the table's cell; the open borrow; obs; auth; the tokens; the slices; _7 (6); …; _6 (8); …; _5 (10); …; _4 (12); …; _3 (14); …; _2 (16); …; _1 (18); …; room for _0 (20); …; Q (22)]
-            assigns ! (of_opd ! (load ! (from ! (hop ! (look ! 18 refl) (stop !))) (look_raw ! 0 refl))) (from ! (stop !)) (init ! 10 refl ((LL.lawful T Lt 𝓛).typed h _ is).0) $
-            assigns ! (addr ! (from ! (fld ! refl (hop ! (look_in ! 14 (sub ! 0 refl (whole !))) (stop !))))) (from ! (stop !)) (init ! 8 refl (tt, tt)) $
-            assigns ! (agg ! (and_then ! (load ! (from ! (stop !)) (look ! 8 refl)) (and_then ! (load ! (from ! (fld ! refl (stop !))) (look_in ! 14 (sub ! 1 refl (whole !)))) (no_more !)))) (from ! (stop !)) (init ! 6 refl (tt, (tt, (record { fits = is₂.0.1.0 }, tt)))) $
-            -- the call: [what it asks; the table's cell; the open borrow; obs; auth; _7 (5); …; _5 (9); …; _4 (11); …; _2 (15); …]
-            move ! (4 ∷ 5 ∷ 22 ∷ []) $ use3 𝓛 (raw (G.pre to_g)) (goes is) $
-            calls_at ! fm G known to_g (and_then ! (load ! (from ! (stop !)) (look ! 9 refl)) (and_then ! (load ! (from ! (stop !)) (look ! 15 refl)) (and_then ! (load ! (from ! (stop !)) (look ! 5 refl)) (no_more !)))) (λ v.
+            -- [the table's cell; the open borrow; obs; auth; the tokens; the slices; _8 (6); …; _7 (8); …; _6 (10); …; _5 (12); …; _4 (14); …; _3 (16); …; _2 (18); …; _1 (20); …; room for _0 (22); …; Q (24)]
+            assigns ! (of_opd ! (load ! (from ! (hop ! (look ! 20 refl) (stop !))) (look_raw ! 0 refl))) (from ! (stop !)) (init ! 12 refl ((LL.lawful T Lt 𝓛).typed h _ is).0) $
+            assigns ! (addr ! (from ! (fld ! refl (hop ! (look_in ! 16 (sub ! 0 refl (whole !))) (stop !))))) (from ! (stop !)) (init ! 10 refl (tt, tt)) $
+            assigns ! (agg ! (and_then ! (load ! (from ! (stop !)) (look ! 10 refl)) (and_then ! (load ! (from ! (fld ! refl (stop !))) (look_in ! 16 (sub ! 1 refl (whole !)))) (no_more !)))) (from ! (stop !)) (init ! 8 refl (tt, (tt, (record { fits = is₂.0.1.0 }, tt)))) $
+            -- the call: [what it asks; the table's cell; the open borrow; obs; auth; _8 (5); …; _7 (7); …; _5 (11); …; _4 (13); …; _2 (17); …]
+            move ! (4 ∷ 5 ∷ 24 ∷ []) $ use3 𝓛 (raw (G.pre to_g)) (goes is) $
+            calls_at ! fm G known to_g (and_then ! (load ! (from ! (stop !)) (look ! 11 refl)) (and_then ! (load ! (from ! (stop !)) (look ! 17 refl)) (and_then ! (load ! (from ! (stop !)) (look ! 7 refl)) (no_more !)))) (λ v.
             use1 𝓛 (later (some (λ (r : RD). (Tokens ⊛ ‵ ((row R).own_val r (v ∷ []))) ⊛ raw (ensured 𝓛 ended_g clauses_g (κ₁, (κ₂, tt)) (h, (x₁, (x₂, tt))) tt r)))) (id⊢ 𝓤 _) $ await ! tt $ pick ! (λ r. split ! $ move ! (1 ∷ []) $
             use1 𝓛 (some (λ (zs : Lasts ended_g (κ₁, (κ₂, tt)) (h, (x₁, (x₂, tt)))). ‵ (lasts ended_g (κ₁, (κ₂, tt)) (h, (x₁, (x₂, tt))) zs) ⊛ raw (E h x₁ x₂ (table r) (word r) (at_last x₂ zs.1.1.0)))) (id⊢ 𝓤 _) $ pick ! (λ zs. split ! $
             -- [the last values; E; the tokens and the result; the table's cell; …]
             fsplit ! $ drop ! $ fsplit ! $ drop ! $ fsplit ! $ fsplit ! $ fsplit ! $ move ! (1 ∷ []) $ feq_l ! (λ l. move ! (2 ∷ []) $ drop ! $ move ! (3 ∷ []) $ split ! $ move ! (1 ∷ []) $
             peeks ! (row R) (Is (row R)) (shows 𝓛 (row R)) r (v ∷ []) (λ is'. drop ! $
-            -- [the tokens; the last list; the output's borrow; E; the table's cell (4); the open borrow; obs; auth; _7 (8); …; _6 (10); …; _5 (12); …; _4 (14); …; _3 (16); …; _2 (18); …; _1 (20); …; room for _0 (22); …]
-            land ! (from ! (stop !)) (init ! 14 refl ((LL.lawful R LR 𝓛).typed r _ is').0) $ rewrite ! 14 (λ (u : Val). ‵ (fat full_share (layout (shape R)) l₄ 0 u)) (ap only (LL.tells R LR r (v ∷ []) is')) refl $
-            assigns ! (of_opd ! (load ! (from ! (fld ! refl (stop !))) (look_in ! 14 (sub ! 0 refl (whole !))))) (from ! (hop ! (look ! 20 refl) (stop !))) (store_raw ! 4 refl ((LL.lawful T Lt 𝓛).typed (table r) _ (owed r v is').0).0) $
-            assigns ! (of_opd ! (load ! (from ! (fld ! refl (stop !))) (look_in ! 14 (sub ! 1 refl (whole !))))) (from ! (stop !)) (init ! 22 refl (tt, record { fits = (owed r v is').1.0.1 })) $
+            -- [the tokens; the last list; the output's borrow; E; the table's cell (4); the open borrow; obs; auth; _8 (8); …; _7 (10); …; _6 (12); …; _5 (14); …; _4 (16); …; _3 (18); …; _2 (20); …; _1 (22); …; room for _0 (24); …]
+            land ! (from ! (stop !)) (init ! 16 refl ((LL.lawful R LR 𝓛).typed r _ is').0) $ rewrite ! 16 (λ (u : Val). ‵ (fat full_share (layout (shape R)) l₄ 0 u)) (ap only (LL.tells R LR r (v ∷ []) is')) refl $
+            assigns ! (of_opd ! (load ! (from ! (fld ! refl (stop !))) (look_in ! 16 (sub ! 0 refl (whole !))))) (from ! (stop !)) (init ! 8 refl ((LL.lawful T Lt 𝓛).typed (table r) _ (owed r v is').0).0) $
+            assigns ! (of_opd ! (load ! (from ! (stop !)) (look ! 8 refl))) (from ! (hop ! (look ! 22 refl) (stop !))) (store_raw ! 4 refl ((LL.lawful T Lt 𝓛).typed (table r) _ (owed r v is').0).0) $
+            assigns ! (of_opd ! (load ! (from ! (fld ! refl (stop !))) (look_in ! 16 (sub ! 1 refl (whole !))))) (from ! (stop !)) (init ! 24 refl (tt, record { fits = (owed r v is').1.0.1 })) $
             -- the borrow is closed at the new table
             move ! (4 ∷ 5 ∷ 6 ∷ 7 ∷ []) $ owned ! (row T) (Is (row T)) (LL.makes T PT 𝓛) (table r) _ (owed r v is').0 $ move ! (1 ∷ 0 ∷ []) $ closes ! tt (row T) (table r) (v_t (table r) ∷ []) b o $
-            -- [obs; the borrow; κ; the tokens; the last list; the output's borrow; E; _7 (7); …; room for _0 (21); …]
-            returns ! (look ! 21 refl) $ forget ! 7 refl $ forget ! 9 refl $ forget ! 11 refl $ forget ! 13 refl $ forget ! 15 refl $ forget ! 17 refl $ forget ! 19 refl $ forget ! 21 refl $
-            move ! (21 ∷ 22 ∷ []) $ free1 ! $ move ! (19 ∷ 20 ∷ []) $ free1 ! $ move ! (17 ∷ 18 ∷ []) $ free1 ! $ move ! (15 ∷ 16 ∷ []) $ free1 ! $ move ! (13 ∷ 14 ∷ []) $ free1 ! $ move ! (11 ∷ 12 ∷ []) $ free1 ! $ move ! (9 ∷ 10 ∷ []) $ free1 ! $ move ! (7 ∷ 8 ∷ []) $ free1 ! $ free0 ! $
-            keep ! (0 ∷ 1 ∷ 2 ∷ 3 ∷ 4 ∷ 5 ∷ 6 ∷ []) $ by ! (exits r zs.1.1.0 (owed r v is').1.0 l))))))))))))))))
+            -- [obs; the borrow; κ; the tokens; the last list; the output's borrow; E; _8 (7); …; room for _0 (23); …]
+            returns ! (look ! 23 refl) $ forget ! 7 refl $ forget ! 9 refl $ forget ! 11 refl $ forget ! 13 refl $ forget ! 15 refl $ forget ! 17 refl $ forget ! 19 refl $ forget ! 21 refl $ forget ! 23 refl $
+            move ! (23 ∷ 24 ∷ []) $ free1 ! $ move ! (21 ∷ 22 ∷ []) $ free1 ! $ move ! (19 ∷ 20 ∷ []) $ free1 ! $ move ! (17 ∷ 18 ∷ []) $ free1 ! $ move ! (15 ∷ 16 ∷ []) $ free1 ! $ move ! (13 ∷ 14 ∷ []) $ free1 ! $ move ! (11 ∷ 12 ∷ []) $ free1 ! $ move ! (9 ∷ 10 ∷ []) $ free1 ! $ move ! (7 ∷ 8 ∷ []) $ free1 ! $ free0 ! $
+            keep ! (0 ∷ 1 ∷ 2 ∷ 3 ∷ 4 ∷ 5 ∷ 6 ∷ []) $ by ! (exits r zs.1.1.0 (owed r v is').1.0 l)))))))))))))))))
 
     walks : (C : Calls 𝓤 H) (Λ : Loops 𝓤 H) (g : Callee) → FmC 𝓤 H 𝓛.laws C → Triple 𝓤 (C g) G → Walks 𝓛 ended_f stayed (WpFn 𝓤 H C Λ (fn g)) clauses_f
     walks C Λ g fm known = walked 𝓛 ended_f stayed clauses_f (WpFn 𝓤 H C Λ (fn g)) (λ κs. (mut_vals, (shr_slice_vals, (mut_slice_vals, tt))))
