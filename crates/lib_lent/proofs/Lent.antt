@@ -9,8 +9,8 @@ use mathlib.Core.Path.{◌≡◌, refl, sym, ap, subst}
 use Prim.Native.Nat.{ℕ}
 use mathlib.Core.List.{[], ◌∷◌, List}
 use seplogic.Ra.Ura.{Ura}
-use seplogic.Ra.TreeShare.{full_share}
-use mir.Syntax.{Name, Width, Fn, local, value_local, memory_slot, ty_int, ty_unit, ty_ref, mut, named, erased, place, deref, copy, opd_unit, rv_opd, addr_of, seq, assign, call, return}
+use base.Fraction.{full_share}
+use mir.Syntax.{Callee, Width, Fn, local, value_local, memory_slot, ty_int, ty_unit, ty_ref, mut, named, erased, place, deref, copy, opd_unit, rv_opd, addr_of, seq, assign, call, return}
 use mir.Val.{Val, vint, vunit, vptr}
 use base.Logic.{SProp, ent, id⊢, emp}
 use base.Fml.{GName, Lft, Share, Fml, ftrue, fat, fsep, flft, fobs, fbor, flent}
@@ -67,10 +67,12 @@ module _ (T : Declared) (Lt : LL.Laws T) (PT : Plains (fields T)) (CT : LL.Copya
         use1 𝓛 (‵ (fat full_share (layout (shape T)) l 0 (v_t h))) (𝓛.laws.raw_at full_share (layout (shape T)) l 0 (v_t h)) $ move ! (1 ∷ 0 ∷ []) $ frame ! $ done !)
 
   -- ---- no number
-  abbrev pub fn0 : Name → Fn
+  abbrev pub fn0 : Callee → Fn
   fn0 g = record {
     lifetimes = 1;
     outlives = [];
+    ty_params = [];
+    givens = 0;
     params = 1;
     locals = local ty_unit value_local ∷ local (ty_ref (named 0) mut (pointee (row T).written)) value_local ∷ local (layout (shape T)) value_local ∷ local (layout (shape T)) value_local ∷ [];
     body = seq (assign (place 3 []) (rv_opd (copy (place 1 (deref (layout (shape T)) ∷ [])))))
@@ -89,10 +91,12 @@ module _ (T : Declared) (Lt : LL.Laws T) (PT : Plains (fields T)) (CT : LL.Copya
   stayed0 = (stay_ref (0 ∷ []) tt (plain (λ _. row T)), tt)
 
   -- the caller: it lends a local
-  abbrev pub fnl0 : Name → Fn
+  abbrev pub fnl0 : Callee → Fn
   fnl0 g = record {
     lifetimes = 0;
     outlives = [];
+    ty_params = [];
+    givens = 0;
     params = 1;
     locals = local (layout (shape T)) value_local ∷ local (layout (shape T)) value_local ∷ local (layout (shape T)) memory_slot ∷ local ty_unit value_local ∷ local (ty_ref erased mut (pointee (row T).written)) value_local ∷ [];
     body = seq (assign (place 2 []) (rv_opd (copy (place 1 []))))
@@ -142,7 +146,7 @@ module _ (T : Declared) (Lt : LL.Laws T) (PT : Plains (fields T)) (CT : LL.Copya
           -- [what t owns; the token; E]
           feq_i ! (List Val) (vunit ∷ []) (vunit ∷ []) refl $ move ! (1 ∷ 0 ∷ []) $ join ! $ nothing ! $ move ! (2 ∷ 0 ∷ []) $ join ! $ join ! $ frame ! $ done !
 
-      module _ (C : Calls 𝓤 H) (Λ : Loops 𝓤 H) (g : Name) (fm : FmC 𝓤 H 𝓛.laws C) (known : Triple 𝓤 (C g) V0) where
+      module _ (C : Calls 𝓤 H) (Λ : Loops 𝓤 H) (g : Callee) (fm : FmC 𝓤 H 𝓛.laws C) (known : Triple 𝓤 (C g) V0) where
         walk0 : ent 𝓤 (⋆ 𝓛 (((‵ (flft κ q) ⊛ ‵ ftrue) ⊛ ‵ (owns (MutRef (named 0) κ (row T) ∷ []) a0 (vptr b o ∷ [], tt))) ∷ raw (Q h) ∷ [])) (WpFn 𝓤 H C Λ (fn0 g) (vptr b o ∷ []) Post0)
         walk0 =
             qed 𝓛 (((‵ (flft κ q) ⊛ ‵ ftrue) ⊛ ‵ (owns (MutRef (named 0) κ (row T) ∷ []) a0 (vptr b o ∷ [], tt))) ∷ raw (Q h) ∷ []) ∵ split ! $ enter ! C Λ (fn0 g) (vptr b o ∷ []) _ $
@@ -190,7 +194,7 @@ module _ (T : Declared) (Lt : LL.Laws T) (PT : Plains (fields T)) (CT : LL.Copya
           suffices ! _ (ends_at 𝓛 valued0 stayedl0 valued0_clauses ((tt, tt, tt, (h, tt), (v_t h ∷ [], tt)), tt) (v_t r) r (last_T h, tt) (tt, tt)) $
           nothing ! $ nothing ! $ fjoin ! $ join ! $ nothing ! $ join ! $ frame ! $ done !
 
-      module _ (C : Calls 𝓤 H) (Λ : Loops 𝓤 H) (g : Name) (fm : FmC 𝓤 H 𝓛.laws C) (known : Triple 𝓤 (C g) L0) where
+      module _ (C : Calls 𝓤 H) (Λ : Loops 𝓤 H) (g : Callee) (fm : FmC 𝓤 H 𝓛.laws C) (known : Triple 𝓤 (C g) L0) where
         walkl0 : ent 𝓤 (⋆ 𝓛 ((‵ ftrue ⊛ ‵ (owns (row T ∷ []) (h, tt) (v_t h ∷ [], tt))) ∷ raw (Q h) ∷ [])) (WpFn 𝓤 H C Λ (fnl0 g) (v_t h ∷ []) Postl0)
         walkl0 =
             qed 𝓛 ((‵ ftrue ⊛ ‵ (owns (row T ∷ []) (h, tt) (v_t h ∷ [], tt))) ∷ raw (Q h) ∷ []) ∵ split ! $ drop ! $ drop ! $ enter ! C Λ (fnl0 g) (v_t h ∷ []) _ $
@@ -206,7 +210,7 @@ module _ (T : Declared) (Lt : LL.Laws T) (PT : Plains (fields T)) (CT : LL.Copya
             -- [what the callee asks; the lender's part; _4 (2); …; _3 (4); …; what frees _2 (6); _1 (7); …; room for _0 (9); …]
             calls_at ! fm L0 known (tol0 α l₂ δ) (and_then ! (load ! (from ! (stop !)) (look ! 2 refl)) (no_more !)) (λ v.
             use1 𝓛 (later (some (λ (r : unit.Denot). ((‵ (flft (α ∷ []) full_share) ⊛ ‵ ftrue) ⊛ ‵ (unit.own_val r (v ∷ []))) ⊛ raw (ensured 𝓛 lent0 lent0_clauses (α ∷ [], tt) (a0 (α ∷ []) full_share l₂ 0 δ h) tt r)))) (id⊢ 𝓤 _) $ await ! tt $ pick ! (λ r. split ! $ move ! (1 ∷ []) $
-            use1 𝓛 (some (λ (zs : Lasts lent0 (α ∷ [], tt) (a0 (α ∷ []) full_share l₂ 0 δ h)). ‵ (lasts lent0 (α ∷ [], tt) (a0 (α ∷ []) full_share l₂ 0 δ h) zs) ⊛ raw (E h zs.0))) (id⊢ 𝓤 _) $ pick ! (λ zs. split ! $ fsplit ! $ move ! (1 ∷ []) $ drop ! $
+            use1 𝓛 (some (λ (zs : Lasts lent0 (α ∷ [], tt) (a0 (α ∷ []) full_share l₂ 0 δ h)). ‵ (lasts lent0 (α ∷ [], tt) (a0 (α ∷ []) full_share l₂ 0 δ h) zs) ⊛ raw (E h zs.0))) (id⊢ 𝓤 _) $ pick ! (λ zs. split ! $ fsplit ! $ move ! (1 ∷ []) $ drop ! $ fsplit ! $ move ! (1 ∷ []) $ drop ! $
             -- [the last value; E; the token and the result; the lender's part; …]
             move ! (2 ∷ []) $ split ! $ move ! (1 ∷ []) $ peeks ! unit (Is unit) (shows 𝓛 unit) r (v ∷ []) (λ is'. drop ! $
             -- [the token; the last value; E; the lender's part; _4 (4); …; _3 (6); …; what frees _2 (8); _1 (9); …; room for _0 (11); …]
@@ -221,13 +225,13 @@ module _ (T : Declared) (Lt : LL.Laws T) (PT : Plains (fields T)) (CT : LL.Copya
             move ! (11 ∷ 12 ∷ []) $ free1 ! $ move ! (9 ∷ 10 ∷ []) $ free1 ! $ move ! (1 ∷ 8 ∷ []) $ free1 ! $ move ! (5 ∷ 6 ∷ []) $ free1 ! $ move ! (3 ∷ 4 ∷ []) $ free1 ! $ free0 ! $
             keep ! (0 ∷ 2 ∷ []) $ by ! (exitsl0 zs.0)))))))))))))
 
-    pub stores0 : (𝓣 : Tables 𝓤 H) (g : Name) → Triple 𝓤 (𝓣.C g) V0 → Meets 𝓛 lent0.signature (WpFn 𝓤 H 𝓣.C 𝓣.Λ (fn0 g)) (closing 𝓛 lent0 lent0_clauses)
+    pub stores0 : (𝓣 : Tables 𝓤 H) (g : Callee) → Triple 𝓤 (𝓣.C g) V0 → Meets 𝓛 lent0.signature (WpFn 𝓤 H 𝓣.C 𝓣.Λ (fn0 g)) (closing 𝓛 lent0 lent0_clauses)
     stores0 𝓣 g known =
         walk_Meets 𝓛 lent0 stayed0 (Goes-ref 𝓛 1 0 tt (plain (λ _. row T)), tt) lent0_clauses (WpFn 𝓤 H 𝓣.C 𝓣.Λ (fn0 g)) (WpFn-mono 𝓤 H 𝓛.laws 𝓣 (fn0 g))
         (walked 𝓛 lent0 stayed0 lent0_clauses (WpFn 𝓤 H 𝓣.C 𝓣.Λ (fn0 g)) (λ κs. (mut_vals, tt)) (λ κs. (mut_Tells (named 0) κs.0 (row T), tt))
-        (λ κs qs bounds a _ are. walk0 κs.0 qs.0 a.0.ptr.0 a.0.ptr.1 a.0.name a.0.now 𝓣.C 𝓣.Λ g (fm_of 𝓤 H 𝓛.laws 𝓣) known))
+        (λ κs qs bounds a _ are. walk0 κs.0 qs.0 a.0.ref_ptr.0 a.0.ref_ptr.1 a.0.ghost_name a.0.now 𝓣.C 𝓣.Λ g (fm_of 𝓤 H 𝓛.laws 𝓣) known))
 
-    pub lends0 : (𝓣 : Tables 𝓤 H) (g : Name) → Triple 𝓤 (𝓣.C g) L0 → Meets 𝓛 valued0.signature (WpFn 𝓤 H 𝓣.C 𝓣.Λ (fnl0 g)) (closing 𝓛 valued0 valued0_clauses)
+    pub lends0 : (𝓣 : Tables 𝓤 H) (g : Callee) → Triple 𝓤 (𝓣.C g) L0 → Meets 𝓛 valued0.signature (WpFn 𝓤 H 𝓣.C 𝓣.Λ (fnl0 g)) (closing 𝓛 valued0 valued0_clauses)
     lends0 𝓣 g known =
         walk_Meets 𝓛 valued0 stayedl0 (Goes-dropped 𝓛 0 (plain (λ _. row T)) yes (λ κs x f. silent_T x f), tt) valued0_clauses (WpFn 𝓤 H 𝓣.C 𝓣.Λ (fnl0 g)) (WpFn-mono 𝓤 H 𝓛.laws 𝓣 (fnl0 g))
         (walked 𝓛 valued0 stayedl0 valued0_clauses (WpFn 𝓤 H 𝓣.C 𝓣.Λ (fnl0 g)) (λ κs. (LL.vals T Lt, tt)) (λ κs. (LL.tells T Lt, tt))
@@ -235,10 +239,12 @@ module _ (T : Declared) (Lt : LL.Laws T) (PT : Plains (fields T)) (CT : LL.Copya
 
   -- ---- two numbers
   module _ (w₁ w₂ : Width) where
-    abbrev pub fn2 : Name → Fn
+    abbrev pub fn2 : Callee → Fn
     fn2 g = record {
       lifetimes = 1;
       outlives = [];
+      ty_params = [];
+      givens = 0;
       params = 3;
       locals = local ty_unit value_local ∷ local (ty_ref (named 0) mut (pointee (row T).written)) value_local ∷ local (ty_int w₁) value_local ∷ local (ty_int w₂) value_local ∷ local (layout (shape T)) value_local ∷ local (layout (shape T)) value_local ∷ [];
       body = seq (assign (place 5 []) (rv_opd (copy (place 1 (deref (layout (shape T)) ∷ [])))))
@@ -257,10 +263,12 @@ module _ (T : Declared) (Lt : LL.Laws T) (PT : Plains (fields T)) (CT : LL.Copya
     stayed2 = (stay_ref (0 ∷ []) tt (plain (λ _. row T)), (stay_dropped (plain (λ _. UInt w₁)) yes, (stay_dropped (plain (λ _. UInt w₂)) yes, tt)))
 
     -- the caller: it lends a local
-    abbrev pub fnl : Name → Fn
+    abbrev pub fnl : Callee → Fn
     fnl g = record {
       lifetimes = 0;
       outlives = [];
+      ty_params = [];
+      givens = 0;
       params = 3;
       locals = local (layout (shape T)) value_local ∷ local (layout (shape T)) value_local ∷ local (ty_int w₁) value_local ∷ local (ty_int w₂) value_local ∷ local (layout (shape T)) memory_slot ∷ local ty_unit value_local ∷ local (ty_ref erased mut (pointee (row T).written)) value_local ∷ [];
       body = seq (assign (place 4 []) (rv_opd (copy (place 1 []))))
@@ -320,7 +328,7 @@ module _ (T : Declared) (Lt : LL.Laws T) (PT : Plains (fields T)) (CT : LL.Copya
               -- [what is had of the parameters; the token; E]
               feq_i ! (List Val) (vunit ∷ []) (vunit ∷ []) refl $ move ! (1 ∷ 0 ∷ []) $ join ! $ nothing ! $ move ! (2 ∷ 0 ∷ []) $ join ! $ join ! $ frame ! $ done !
 
-          module _ (C : Calls 𝓤 H) (Λ : Loops 𝓤 H) (g : Name) (fm : FmC 𝓤 H 𝓛.laws C) (known : Triple 𝓤 (C g) V2) where
+          module _ (C : Calls 𝓤 H) (Λ : Loops 𝓤 H) (g : Callee) (fm : FmC 𝓤 H 𝓛.laws C) (known : Triple 𝓤 (C g) V2) where
             walk2 : ent 𝓤 (⋆ 𝓛 (((‵ (flft κ q) ⊛ ‵ ftrue) ⊛ ‵ (owns (MutRef (named 0) κ (row T) ∷ UInt w₁ ∷ UInt w₂ ∷ []) a2 vals2)) ∷ raw (Q h n₁ n₂) ∷ [])) (WpFn 𝓤 H C Λ (fn2 g) (vptr b o ∷ vint w₁ n₁ ∷ vint w₂ n₂ ∷ []) Post2)
             walk2 =
                 qed 𝓛 (((‵ (flft κ q) ⊛ ‵ ftrue) ⊛ ‵ (owns (MutRef (named 0) κ (row T) ∷ UInt w₁ ∷ UInt w₂ ∷ []) a2 vals2)) ∷ raw (Q h n₁ n₂) ∷ []) ∵ split ! $ enter ! C Λ (fn2 g) (vptr b o ∷ vint w₁ n₁ ∷ vint w₂ n₂ ∷ []) _ $
@@ -372,7 +380,7 @@ module _ (T : Declared) (Lt : LL.Laws T) (PT : Plains (fields T)) (CT : LL.Copya
               suffices ! _ (ends_at 𝓛 valued2 stayedl valued2_clauses ((tt, tt, tt, (h, (n₁, (n₂, tt))), valsl), tt) (v_t r) r (last_T h, (tt, (tt, tt))) (tt, (tt, (tt, tt)))) $
               nothing ! $ nothing ! $ fjoin ! $ nothing ! $ fjoin ! $ nothing ! $ fjoin ! $ join ! $ nothing ! $ join ! $ frame ! $ done !
 
-          module _ (C : Calls 𝓤 H) (Λ : Loops 𝓤 H) (g : Name) (fm : FmC 𝓤 H 𝓛.laws C) (known : Triple 𝓤 (C g) L2) where
+          module _ (C : Calls 𝓤 H) (Λ : Loops 𝓤 H) (g : Callee) (fm : FmC 𝓤 H 𝓛.laws C) (known : Triple 𝓤 (C g) L2) where
             walkl : ent 𝓤 (⋆ 𝓛 ((‵ ftrue ⊛ ‵ (owns (row T ∷ UInt w₁ ∷ UInt w₂ ∷ []) (h, (n₁, (n₂, tt))) valsl)) ∷ raw (Q h n₁ n₂) ∷ [])) (WpFn 𝓤 H C Λ (fnl g) (v_t h ∷ vint w₁ n₁ ∷ vint w₂ n₂ ∷ []) Postl)
             walkl =
                 qed 𝓛 ((‵ ftrue ⊛ ‵ (owns (row T ∷ UInt w₁ ∷ UInt w₂ ∷ []) (h, (n₁, (n₂, tt))) valsl)) ∷ raw (Q h n₁ n₂) ∷ []) ∵ split ! $ drop ! $ drop ! $ enter ! C Λ (fnl g) (v_t h ∷ vint w₁ n₁ ∷ vint w₂ n₂ ∷ []) _ $
@@ -389,7 +397,7 @@ module _ (T : Declared) (Lt : LL.Laws T) (PT : Plains (fields T)) (CT : LL.Copya
                 -- [what the callee asks; the lender's part; _6 (2); …; _5 (4); …; what frees _4 (6); _3 (7); …; _2 (9); …; _1 (11); …; room for _0 (13); …]
                 calls_at ! fm L2 known (tol α l₄ δ) (and_then ! (load ! (from ! (stop !)) (look ! 2 refl)) (and_then ! (load ! (from ! (stop !)) (look ! 9 refl)) (and_then ! (load ! (from ! (stop !)) (look ! 7 refl)) (no_more !)))) (λ v.
                 use1 𝓛 (later (some (λ (r : unit.Denot). ((‵ (flft (α ∷ []) full_share) ⊛ ‵ ftrue) ⊛ ‵ (unit.own_val r (v ∷ []))) ⊛ raw (ensured 𝓛 lent2 lent2_clauses (α ∷ [], tt) (a2 (α ∷ []) full_share l₄ 0 δ h) tt r)))) (id⊢ 𝓤 _) $ await ! tt $ pick ! (λ r. split ! $ move ! (1 ∷ []) $
-                use1 𝓛 (some (λ (zs : Lasts lent2 (α ∷ [], tt) (a2 (α ∷ []) full_share l₄ 0 δ h)). ‵ (lasts lent2 (α ∷ [], tt) (a2 (α ∷ []) full_share l₄ 0 δ h) zs) ⊛ raw (E h n₁ n₂ zs.0))) (id⊢ 𝓤 _) $ pick ! (λ zs. split ! $ fsplit ! $ move ! (1 ∷ []) $ drop ! $
+                use1 𝓛 (some (λ (zs : Lasts lent2 (α ∷ [], tt) (a2 (α ∷ []) full_share l₄ 0 δ h)). ‵ (lasts lent2 (α ∷ [], tt) (a2 (α ∷ []) full_share l₄ 0 δ h) zs) ⊛ raw (E h n₁ n₂ zs.0))) (id⊢ 𝓤 _) $ pick ! (λ zs. split ! $ fsplit ! $ move ! (1 ∷ []) $ drop ! $ fsplit ! $ move ! (1 ∷ []) $ drop ! $
                 -- [the last value; E; the token and the result; the lender's part; …]
                 move ! (2 ∷ []) $ split ! $ move ! (1 ∷ []) $ peeks ! unit (Is unit) (shows 𝓛 unit) r (v ∷ []) (λ is'. drop ! $
                 -- [the token; the last value; E; the lender's part; _6 (4); …; _5 (6); …; what frees _4 (8); _3 (9); …; _2 (11); …; _1 (13); …; room for _0 (15); …]
@@ -404,14 +412,14 @@ module _ (T : Declared) (Lt : LL.Laws T) (PT : Plains (fields T)) (CT : LL.Copya
                 move ! (15 ∷ 16 ∷ []) $ free1 ! $ move ! (13 ∷ 14 ∷ []) $ free1 ! $ move ! (11 ∷ 12 ∷ []) $ free1 ! $ move ! (9 ∷ 10 ∷ []) $ free1 ! $ move ! (1 ∷ 8 ∷ []) $ free1 ! $ move ! (5 ∷ 6 ∷ []) $ free1 ! $ move ! (3 ∷ 4 ∷ []) $ free1 ! $ free0 ! $
                 keep ! (0 ∷ 2 ∷ []) $ by ! (exitsl zs.0)))))))))))))))
 
-      pub stores2 : (𝓣 : Tables 𝓤 H) (g : Name) → Triple 𝓤 (𝓣.C g) V2 → Meets 𝓛 lent2.signature (WpFn 𝓤 H 𝓣.C 𝓣.Λ (fn2 g)) (closing 𝓛 lent2 lent2_clauses)
+      pub stores2 : (𝓣 : Tables 𝓤 H) (g : Callee) → Triple 𝓤 (𝓣.C g) V2 → Meets 𝓛 lent2.signature (WpFn 𝓤 H 𝓣.C 𝓣.Λ (fn2 g)) (closing 𝓛 lent2 lent2_clauses)
       stores2 𝓣 g known =
           walk_Meets 𝓛 lent2 stayed2 (Goes-ref 𝓛 1 0 tt (plain (λ _. row T)), (Goes-dropped 𝓛 1 (plain (λ _. UInt w₁)) yes (λ κs x f. refl), (Goes-dropped 𝓛 1 (plain (λ _. UInt w₂)) yes (λ κs x f. refl), tt)))
           lent2_clauses (WpFn 𝓤 H 𝓣.C 𝓣.Λ (fn2 g)) (WpFn-mono 𝓤 H 𝓛.laws 𝓣 (fn2 g))
           (walked 𝓛 lent2 stayed2 lent2_clauses (WpFn 𝓤 H 𝓣.C 𝓣.Λ (fn2 g)) (λ κs. (mut_vals, (uint_vals w₁, (uint_vals w₂, tt)))) (λ κs. (mut_Tells (named 0) κs.0 (row T), (uint_Tells w₁, (uint_Tells w₂, tt))))
-          (λ κs qs bounds a _ are. walk2 a.1.0 a.1.1.0 are.1.0 are.1.1.0 κs.0 qs.0 a.0.ptr.0 a.0.ptr.1 a.0.name a.0.now 𝓣.C 𝓣.Λ g (fm_of 𝓤 H 𝓛.laws 𝓣) known))
+          (λ κs qs bounds a _ are. walk2 a.1.0 a.1.1.0 are.1.0 are.1.1.0 κs.0 qs.0 a.0.ref_ptr.0 a.0.ref_ptr.1 a.0.ghost_name a.0.now 𝓣.C 𝓣.Λ g (fm_of 𝓤 H 𝓛.laws 𝓣) known))
 
-      pub lends2 : (𝓣 : Tables 𝓤 H) (g : Name) → Triple 𝓤 (𝓣.C g) L2 → Meets 𝓛 valued2.signature (WpFn 𝓤 H 𝓣.C 𝓣.Λ (fnl g)) (closing 𝓛 valued2 valued2_clauses)
+      pub lends2 : (𝓣 : Tables 𝓤 H) (g : Callee) → Triple 𝓤 (𝓣.C g) L2 → Meets 𝓛 valued2.signature (WpFn 𝓤 H 𝓣.C 𝓣.Λ (fnl g)) (closing 𝓛 valued2 valued2_clauses)
       lends2 𝓣 g known =
           walk_Meets 𝓛 valued2 stayedl (Goes-dropped 𝓛 0 (plain (λ _. row T)) yes (λ κs x f. silent_T x f), (Goes-dropped 𝓛 0 (plain (λ _. UInt w₁)) yes (λ κs x f. refl), (Goes-dropped 𝓛 0 (plain (λ _. UInt w₂)) yes (λ κs x f. refl), tt)))
           valued2_clauses (WpFn 𝓤 H 𝓣.C 𝓣.Λ (fnl g)) (WpFn-mono 𝓤 H 𝓛.laws 𝓣 (fnl g))

@@ -1,0 +1,15 @@
+-- `table_held::held_peer` meets its contract.
+use lib.Dec.{lit≤}
+use Rattle.table_layout.specs.View.{view_table}
+use Rattle.table_layout.specs.Told.{part_end, held_in_lem}
+use Rattle.table_held.proofs.held_peer.Goals as goal
+
+pub slice_bounds-peer_at-end : goal.slice_bounds-peer_at-end
+slice_bounds-peer_at-end c = part_end c.requires.fit_table (lit≤ tt)
+
+pub peer_at-requires : goal.peer_at-requires
+peer_at-requires c = record { fit_held = c.requires.fit_table.held; i_bound = held_in_lem c.requires.fit_table c.requires.i_in_bounds }
+
+pub returns : goal.returns
+unfolding view_table
+returns c = c.peer_at.ensures

@@ -1,0 +1,15 @@
+-- `table_legs::leg_link` meets its contract.
+use lib.Dec.{lit≤}
+use Rattle.table_layout.specs.View.{view_table}
+use Rattle.table_layout.specs.Told.{part_end, leg_in}
+use Rattle.table_legs.proofs.leg_link.Goals as goal
+
+pub slice_bounds-link_at-end : goal.slice_bounds-link_at-end
+slice_bounds-link_at-end c = part_end c.requires.fit_table (lit≤ tt)
+
+pub link_at-requires : goal.link_at-requires
+link_at-requires c = record { fit_legs = c.requires.fit_table.legs; i_bound = leg_in c.requires.fit_table c.requires.i_in_bounds }
+
+pub returns : goal.returns
+unfolding view_table
+returns c = c.link_at.ensures

@@ -1,0 +1,12 @@
+-- `table_links::drop_link` meets its contract.
+use lib.Dec.{lit≤}
+use Rattle.table_layout.specs.View.{view_table}
+use Rattle.table_layout.specs.Told.{part_end, told_links}
+use Rattle.table_links.proofs.drop_link.Goals as goal
+
+pub slice_bounds-drop_link-end : goal.slice_bounds-drop_link-end
+slice_bounds-drop_link-end c = part_end c.requires (lit≤ tt)
+
+pub returns : goal.returns
+unfolding view_table
+returns c = told_links c.requires c.drop_link.ensures.fit_links c.drop_link.ensures.s_after
