@@ -126,9 +126,11 @@ def to_record(expr, labels, known=lambda step: None):
         return None
     if args[:2] == ["search", "rules"] or args[0] in ("search", "omega", "grind"):
         return expr
-    if len(labels) > 4:
+    if expr.startswith("record {"):
+        return expr
+    if len(labels) > 6:
         return None
-    names = "abde"[: len(labels)]
+    names = "abdefg"[: len(labels)]
     both = "both" if len(labels) == 2 else f"both_{len(labels)}"
     return f"{both} (λ {' '.join(names)}. record {{ " + "; ".join(f"{l} = {x}" for l, x in zip(labels, names)) + f" }}) ({expr})"
 
@@ -362,7 +364,7 @@ def turn(crate, path, names, labels):
                     extra.append(o)
         rest = [placed.get(o, "(λ c. search rules)") for o in olds]
         print(f"  {path}: {len(args) - len(loops)} answers for {len(needs)} goals; not asked: {' '.join(extra)}")
-    answers = []
+    answers, later = [], set()
     for a, (old, new) in zip(rest, needs):
         if a in by_name:
             text = by_name[a]
@@ -384,6 +386,9 @@ def turn(crate, path, names, labels):
         body = f.expression(body, root)
         clauses = f.n["asked"].get(old) or []
         if len(clauses) > 1:
+            fields = (f.n["pre"] or {}).get("fields") or []
+            if body.strip() == "c.requires" and len(fields) == len(clauses):
+                body = "record { " + "; ".join(f"{a} = c.requires.{b}" for a, b in zip(clauses, fields)) + " }"
             body = to_record(body, clauses, lambda step: f.by_new.get(step))
             if body is None:
                 print(f"  {path}: {new}: left to the search")
@@ -392,10 +397,15 @@ def turn(crate, path, names, labels):
             print(f"  {path}: {new}: {', '.join(sorted(set(f.odd)))}")
             f.odd = []
         body = re.sub(r"\n(?=\S)", "\n    ", body.strip())
+        for a2, (_, new2) in zip(rest, needs):
+            if a2 in by_name:
+                body, n = re.subn(r"(?<![^\s(])" + re.escape(a2) + r" c(?=[\s).])", new2 + " c", body)
+                later.add(new) if n else None
         answers.append((new, unfolding, "\n    " + body if "\n" in body else " " + body))
+    answers.sort(key=lambda a: a[0] in later)
     others = [t for n, t in decls if n not in loops and n not in rest and n not in [by_name.get(x) for x in rest] and not (n.endswith("_spec") or n.endswith("-spec")) and not re.search(r": tie\.Need-", t.split("\n")[0])]
     uses = [u for u in uses if not re.search(r"\.(Statement|Tie)\b", u)]
-    more = ["use Rattle.lib_laws.specs.Both.{both, both_3, both_4}", "use Rattle.std.proofs.Common.{ap}", "use mathlib.Core.Bool.{not}"]
+    more = ["use Rattle.lib_laws.specs.Both.{both, both_3, both_4, both_5, both_6}", "use Rattle.std.proofs.Common.{ap}", "use mathlib.Core.Bool.{not}"]
     kept = lambda text: [u for u in (used(u, text) for u in uses + more) if u]
     module = f"Rattle.{crate}.proofs.{rel}"
     if loops:
