@@ -1,12 +1,12 @@
 -- Every leg closed: leases freed, links retired with one list of what they close, legs gone.
-use Rattle.std.specs.Prelude.{◌≡◌, refl, ℕ, ◌+◌, ◌-◌, ◌*◌, ◌^◌, ◌≤◌, ◌<◌, length, drop, get_or}
+use Rattle.std.specs.Prelude.{◌≡◌, refl, ℕ, ◌+◌, ◌-◌, ◌*◌, ◌^◌, ◌≤◌, ◌<◌, length, drop, get_or, if◌then◌else◌}
 use Rattle.std.proofs.Math.Path.{sym, ap, subst}
 use Rattle.std.proofs.Common.{◌∙◌, add-zero, add-one, arith, drop-cons, length-append, drop_of_length-le, Fits}
 use mathlib.Core.List.{List, [], ◌∷◌, ◌++◌, map, append_assoc, append-nil}
 use Rattle.std.proofs.lemmas.List.{length-map}
 use Rattle.std.proofs.Math.ListN.{get_or-map}
 use Rattle.std.specs.Int.{w64}
-use Rattle.rules.specs.Base.{Bytes, if◌then◌else◌, empty}
+use Rattle.rules.specs.Base.{Bytes, empty}
 use Rattle.rules.specs.Data.{Pair, LinkRec, Leg, Table, Output, Free}
 use Rattle.rules.specs.Output.{pairs_bytes, output_record}
 use Rattle.rules.specs.Links.{retired, retiring}

@@ -1,8 +1,8 @@
 -- A held peer that restarted, or that was heard: each way of the step.
-use Rattle.std.specs.Prelude.{◌≡◌, Bool, true, false, List, [], ◌∷◌, ℕ, ◌+◌, ◌≤◌, length, set}
+use Rattle.std.specs.Prelude.{◌≡◌, Bool, true, false, List, [], ◌∷◌, ℕ, ◌+◌, ◌≤◌, length, set, if◌then◌else◌}
 use Rattle.std.proofs.Common.{sym, subst, arith}
 use Rattle.std.proofs.Math.Option.{none, some}
-use Rattle.rules.specs.Base.{if◌then◌else◌, Bytes}
+use Rattle.rules.specs.Base.{Bytes}
 use Rattle.rules.specs.Std.{Ascending}
 use Rattle.rules.specs.Data.{Pair, same_pair, Table, Transition, Output, Reset, Roam}
 use Rattle.rules.specs.Output.{output_record}

@@ -1,7 +1,7 @@
 -- The codes that a record brings, kinds by what they are not, and steps that write nothing or change nothing.
-use Rattle.std.specs.Prelude.{◌≡◌, refl, Bool, true, false, List, [], ℕ, suc, ◌≤◌, ◌<◌, get_or}
+use Rattle.std.specs.Prelude.{◌≡◌, refl, Bool, true, false, List, [], ℕ, suc, ◌≤◌, ◌<◌, get_or, if◌then◌else◌}
 use Rattle.std.proofs.Common.{sym, ap, ◌∙◌, subst, arith}
-use Rattle.rules.specs.Base.{if◌then◌else◌, Bytes}
+use Rattle.rules.specs.Base.{Bytes}
 use Rattle.rules.specs.Data.{Pair, Proven, Live, Probing, Table, Why, Output, Step}
 use Rattle.rules.specs.Field.{fail, whys, why_code, states}
 use Rattle.rules.specs.Links.{path}

@@ -1,5 +1,5 @@
 -- The places of a table, counted from behind: its memories, then each peer that nothing behind it names.
-use Rattle.std.specs.Prelude.{◌≡◌, Bool, true, false, ◌||◌, ℕ, zero, suc, ◌+◌, ◌≤◌, ◌<◌, drop, get_or, replicate}
+use Rattle.std.specs.Prelude.{◌≡◌, Bool, true, false, ◌||◌, ℕ, zero, suc, ◌+◌, ◌≤◌, ◌<◌, drop, get_or, replicate, if◌then◌else◌}
 use Rattle.std.proofs.Math.Path.{refl, ap}
 use Rattle.std.proofs.Common.{sym, ◌∙◌, subst, add-one, Fits, drop-cons, drop_of_length-le}
 use Rattle.std.proofs.Math.Option.{Option, none, some}
@@ -7,7 +7,7 @@ use mathlib.Core.List.{List, [], ◌∷◌, ◌++◌, map, append_assoc}
 use native.Mathlib.Omega.{arith}
 use Rattle.std.specs.Int.{w64}
 use Rattle.std.proofs.Math.ListN.{length, length-append, length-map}
-use Rattle.rules.specs.Base.{if◌then◌else◌, option, is, Bytes, same, any, All}
+use Rattle.rules.specs.Base.{option, is, Bytes, same, any, All}
 use Rattle.rules.specs.Std.{before, Ascending}
 use Rattle.rules.specs.Data.{Leg, Held, Memory, Table}
 use Rattle.rules.specs.Gates.{memory_of}

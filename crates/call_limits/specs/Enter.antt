@@ -1,9 +1,9 @@
 -- What the answers of this crate say of the rules' refusals 4, 5 and 6.
-use Rattle.std.specs.Prelude.{◌≡◌, Bool, true, false, not, ◌&&◌, List, ℕ, ◌+◌, ◌-◌, ◌^◌, ◌≤◌, ◌<◌, eqb, leb, ltb, length}
+use Rattle.std.specs.Prelude.{◌≡◌, Bool, true, false, not, ◌&&◌, List, ℕ, ◌+◌, ◌-◌, ◌^◌, ◌≤◌, ◌<◌, eqb, leb, ltb, length, if◌then◌else◌}
 use Rattle.std.proofs.Math.Path.{refl, sym}
 use Rattle.std.proofs.Common.{ap, ◌∙◌, arith}
 use borrow.Author.Tests.{eq-eqb, ne_eqb, eqb-false, le-leb, lt-leb, ltb-true}
-use Rattle.rules.specs.Base.{if◌then◌else◌, Bytes, same, any}
+use Rattle.rules.specs.Base.{Bytes, same, any}
 use Rattle.rules.specs.Data.{LinkRec, Table, Result}
 use Rattle.rules.specs.Settle.{refuse, places, numbering}
 use Rattle.rules.specs.Settle as rule

@@ -1,8 +1,8 @@
 -- What `arrived` comes to.
-use Rattle.std.specs.Prelude.{◌≡◌, Bool, true, false, List, [], ◌∷◌, ℕ, ◌+◌, ◌≤◌, length}
+use Rattle.std.specs.Prelude.{◌≡◌, Bool, true, false, List, [], ◌∷◌, ℕ, ◌+◌, ◌≤◌, length, if◌then◌else◌}
 use Rattle.std.proofs.Common.{sym, ◌∙◌}
 use Rattle.std.proofs.Math.Option.{none, some}
-use Rattle.rules.specs.Base.{Bytes, if◌then◌else◌}
+use Rattle.rules.specs.Base.{Bytes}
 use Rattle.rules.specs.Data.{Pair, Table, Full, Output, Reject}
 use Rattle.rules.specs.Settle.{writes, stored, full, arrived}
 use Rattle.rules.specs.Output.{output_record}

@@ -1,7 +1,6 @@
 // A msg1 before it is read: what is known of it by its pair and its bytes.
 ghost use Rattle.std.proofs.Math.Option.{none};
-ghost use Rattle.std.specs.Prelude.{[], ◌∷◌, drop};
-ghost use Rattle.rules.specs.Base.{if◌then◌else◌};
+ghost use Rattle.std.specs.Prelude.{[], ◌∷◌, drop, if◌then◌else◌};
 ghost use Rattle.rules.specs.Data.{Full, Reject};
 ghost use Rattle.rules.specs.Settle as rule;
 ghost use Rattle.node_addr.specs.Place.{pair_here, PairIn};

@@ -1,10 +1,10 @@
 -- A msg2, by what its leg and the holder of its peer are.
-use Rattle.std.specs.Prelude.{◌≡◌, Bool, true, false, ◌||◌, [], ◌∷◌, ℕ, ◌+◌, ◌≤◌, ◌<◌, eqb}
+use Rattle.std.specs.Prelude.{◌≡◌, Bool, true, false, ◌||◌, [], ◌∷◌, ℕ, ◌+◌, ◌≤◌, ◌<◌, eqb, if◌then◌else◌}
 use Rattle.std.proofs.Common.{sym, ◌∙◌, arith, eq-eqb, ne_eqb}
 use Rattle.std.proofs.Math.Path.{ap, subst}
 use Rattle.std.proofs.Math.Option.{none, some}
 use Rattle.std.proofs.Math.ListN.{length}
-use Rattle.rules.specs.Base.{if◌then◌else◌, is, Bytes}
+use Rattle.rules.specs.Base.{is, Bytes}
 use Rattle.rules.specs.Std.{before}
 use Rattle.rules.specs.Data.{Pair, Leg, Held, Table, Why, Promote, Replace, Keep, Reset, Step}
 use Rattle.rules.specs.Legs.{on_link, answered, answers}

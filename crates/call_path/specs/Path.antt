@@ -1,8 +1,8 @@
 -- The paths of a link: a path that is refused or not, and a release.
-use Rattle.std.specs.Prelude.{◌≡◌, Bool, true, false, [], ◌∷◌, ℕ, ◌+◌, ◌≤◌, length}
+use Rattle.std.specs.Prelude.{◌≡◌, Bool, true, false, [], ◌∷◌, ℕ, ◌+◌, ◌≤◌, length, if◌then◌else◌}
 use Rattle.std.proofs.Math.Path.{refl}
 use Rattle.std.proofs.Common.{sym, ◌∙◌, arith, length-append}
-use Rattle.rules.specs.Base.{if◌then◌else◌, Bytes}
+use Rattle.rules.specs.Base.{Bytes}
 use Rattle.rules.specs.Data.{Pair, Proven, Table, Output, Result}
 use Rattle.rules.specs.Field.{pair_bytes}
 use Rattle.rules.specs.Output.{pairs_bytes, output_record}

@@ -1,5 +1,5 @@
 -- The legs that poll reaps, and what it repeats: the first of them, and what is left then.
-use Rattle.std.specs.Prelude.{◌≡◌, Bool, eqb, ltb, take, drop, get_or}
+use Rattle.std.specs.Prelude.{◌≡◌, Bool, eqb, ltb, take, drop, get_or, if◌then◌else◌}
 use Rattle.std.proofs.Math.Path.{refl, ap, subst}
 use Rattle.std.proofs.Common.{◌∙◌, ltb-true, ne_eqb, drop-drop, get_or-drop, length-drop}
 use Rattle.std.proofs.Math.Bool.{true, false}
@@ -8,7 +8,7 @@ use mathlib.Core.List.{List, [], ◌∷◌, map}
 use Prim.Native.Nat.{ℕ, suc, ◌+◌, ◌-◌, ◌≤◌, ◌<◌}
 use native.Mathlib.Omega.{arith}
 use Rattle.std.proofs.Math.ListN.{length}
-use Rattle.rules.specs.Base.{Bytes, if◌then◌else◌, find, without, keep, All}
+use Rattle.rules.specs.Base.{Bytes, find, without, keep, All}
 use Rattle.rules.specs.Std.{Ascending}
 use Rattle.rules.specs.Data.{Leg, Table, Step, Resend}
 use Rattle.rules.specs.Legs.{on_link, overdue, resends}

@@ -1,8 +1,8 @@
 -- A Wake as it is written.
-use Rattle.std.specs.Prelude.{◌≡◌, Bool, true, false, [], ◌∷◌, ℕ, ◌+◌, ◌≤◌, length}
+use Rattle.std.specs.Prelude.{◌≡◌, Bool, true, false, [], ◌∷◌, ℕ, ◌+◌, ◌≤◌, length, if◌then◌else◌}
 use Rattle.std.proofs.Common.{sym, subst}
 use Rattle.std.proofs.Math.Option.{Option, none, some}
-use Rattle.rules.specs.Base.{if◌then◌else◌, Bytes}
+use Rattle.rules.specs.Base.{Bytes}
 use Rattle.rules.specs.Data.{Output}
 use Rattle.rules.specs.Output.{output_record}
 use Rattle.lib_laws.specs.Splice.{Wrote}

@@ -1,11 +1,11 @@
 -- A holder that goes: what is remembered of it, room for what is written of it, and what the table then shows.
-use Rattle.std.specs.Prelude.{◌≡◌, refl, Bool, true, false, ℕ, ◌+◌, ◌≤◌}
+use Rattle.std.specs.Prelude.{◌≡◌, refl, Bool, true, false, ℕ, ◌+◌, ◌≤◌, if◌then◌else◌}
 use Rattle.std.proofs.Common.{sym, ◌∙◌}
 use Rattle.std.proofs.Math.Path.{ap, subst}
 use Rattle.std.proofs.Math.Option.{Option, none, some}
 use mathlib.Core.List.{List, [], ◌∷◌}
 use Rattle.std.proofs.Math.ListN.{length}
-use Rattle.rules.specs.Base.{if◌then◌else◌, option, is, Bytes, All, without}
+use Rattle.rules.specs.Base.{option, is, Bytes, All, without}
 use Rattle.rules.specs.Std.{Ascending}
 use Rattle.rules.specs.Time.{Params}
 use Rattle.rules.specs.Data.{Pair, Held, Table, Why, Output, Step, Retire, Retry}

@@ -1,9 +1,9 @@
 -- What was sent: a resend counted, an answer marked, or a peer held by an answer.
-use Rattle.std.specs.Prelude.{◌≡◌, refl, Bool, true, false, List, [], ◌∷◌, ℕ, ◌+◌, ◌≤◌, ◌<◌, length, set, replicate}
+use Rattle.std.specs.Prelude.{◌≡◌, refl, Bool, true, false, List, [], ◌∷◌, ℕ, ◌+◌, ◌≤◌, ◌<◌, length, set, replicate, if◌then◌else◌}
 use Rattle.std.proofs.Math.Path.{sym, ap}
 use Rattle.std.proofs.Common.{◌∙◌, subst}
 use Rattle.std.proofs.Math.Option.{none, some}
-use Rattle.rules.specs.Base.{if◌then◌else◌, is, Bytes, alter}
+use Rattle.rules.specs.Base.{is, Bytes, alter}
 use Rattle.rules.specs.Time.{Params}
 use Rattle.rules.specs.Data.{Pair, LinkRec, Leg, Held, Memory, Table, Transition, Promote, Replace, Fresh, Installed, Install, Reset, Step}
 use Rattle.rules.specs.Links.{numbered}

@@ -1,7 +1,7 @@
 // What becomes of a leg when what it sends went out, or did not.
-ghost use Rattle.std.specs.Prelude.{◌≡◌, true, ◌<◌, length};
+ghost use Rattle.std.specs.Prelude.{◌≡◌, true, ◌<◌, length, if◌then◌else◌};
 ghost use Rattle.std.proofs.Math.Option.{some};
-ghost use Rattle.rules.specs.Base.{if◌then◌else◌, is};
+ghost use Rattle.rules.specs.Base.{is};
 ghost use Rattle.rules.specs.Data.{Replace, Promote};
 ghost use Rattle.rules.specs.Legs as leg;
 ghost use Rattle.rules.specs.Settle as rule;

@@ -1,5 +1,5 @@
 -- A memory found, stored and cleared among memories in the order of their peers.
-use Rattle.std.specs.Prelude.{◌≡◌, Bool, not, ◌&&◌, ℕ, zero, suc, ◌≤◌, ◌<◌, eqb, ltb, length, get_or}
+use Rattle.std.specs.Prelude.{◌≡◌, Bool, not, ◌&&◌, ℕ, zero, suc, ◌≤◌, ◌<◌, eqb, ltb, length, get_or, if◌then◌else◌}
 use Rattle.std.proofs.Math.Path.{refl, sym, ap}
 use Rattle.std.proofs.Common.{◌∙◌, subst, arith, eqb-true, eq-eqb, ne_eqb, ltb-true, le-ltb}
 use Rattle.std.proofs.Math.Bool.{true, false}
@@ -7,7 +7,7 @@ use Rattle.std.proofs.Math.Option.{Option, none, some}
 use mathlib.Core.List.{List, [], ◌∷◌}
 use Rattle.std.proofs.lemmas.Bool.{eqb-false}
 use Rattle.std.proofs.Math.ListN.{set}
-use Rattle.rules.specs.Base.{if◌then◌else◌, option, is, empty, Bytes, All, without}
+use Rattle.rules.specs.Base.{option, is, empty, Bytes, All, without}
 use Rattle.rules.specs.Std.{before, Ascending}
 use Rattle.rules.specs.Std as std
 use Rattle.rules.specs.Data.{Replay, Silence, Memory}

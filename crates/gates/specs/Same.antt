@@ -1,10 +1,10 @@
 -- Zeroed memory has no memories; and regions that fit and show the same are the same bytes.
-use Rattle.std.specs.Prelude.{◌≡◌, refl, Bool, true, false, [], ◌∷◌, map, ℕ, length, take, drop, replicate}
+use Rattle.std.specs.Prelude.{◌≡◌, refl, Bool, true, false, [], ◌∷◌, map, ℕ, length, take, drop, replicate, if◌then◌else◌}
 use Rattle.std.proofs.Common.{sym, ◌∙◌, arith, lit≤}
 use Rattle.std.proofs.Math.Path.{ap}
 use Rattle.std.proofs.Math.Option.{none, some}
 use Rattle.std.proofs.lemmas.List.{get_or-replicate}
-use Rattle.rules.specs.Base.{if◌then◌else◌, Bytes, All}
+use Rattle.rules.specs.Base.{Bytes, All}
 use Rattle.rules.specs.Bounds.{IsByte}
 use Rattle.rules.specs.Data.{Replay, Silence, Memory}
 use Rattle.lib_laws.specs.Cell.{flag_of, flag_same, option_num_same}

@@ -1,8 +1,8 @@
 -- The three bytes that tell whether a memory has a stamp and nothing else.
-use Rattle.std.specs.Prelude.{◌≡◌, refl, Bool, true, false, not, List, [], ◌∷◌, map, ℕ, zero, suc, ◌+◌, ◌*◌, ◌<◌, length, take, drop, get_or}
+use Rattle.std.specs.Prelude.{◌≡◌, refl, Bool, true, false, not, List, [], ◌∷◌, map, ℕ, zero, suc, ◌+◌, ◌*◌, ◌<◌, length, take, drop, get_or, if◌then◌else◌}
 use Rattle.std.proofs.Common.{sym, ap, ◌∙◌, arith}
 use Rattle.std.proofs.Math.Option.{none, some}
-use Rattle.rules.specs.Base.{if◌then◌else◌, Bytes, is, empty}
+use Rattle.rules.specs.Base.{Bytes, is, empty}
 use Rattle.rules.specs.Data.{Silence}
 use Rattle.lib_laws.specs.Cell.{flag_of}
 use Rattle.lib_laws.specs.Chunk.{chunks, length_chunks}

@@ -1,7 +1,7 @@
 // What happens to a peer, in what is remembered of it; and the judgement of a msg1.
-ghost use Rattle.std.specs.Prelude.{◌≡◌, ◌<◌, set};
+ghost use Rattle.std.specs.Prelude.{◌≡◌, ◌<◌, set, if◌then◌else◌};
 ghost use Rattle.std.proofs.Math.Option.{some};
-ghost use Rattle.rules.specs.Base.{if◌then◌else◌, All};
+ghost use Rattle.rules.specs.Base.{All};
 ghost use Rattle.rules.specs.Std.{Ascending};
 ghost use Rattle.rules.specs.Gates as rule;
 ghost use Rattle.lib_laws.specs.Shift.{erase};

@@ -1,6 +1,5 @@
 // The memories of a region: counted, found by peer, stored.
-ghost use Rattle.std.specs.Prelude.{◌≡◌, true, ◌<◌, length, set};
-ghost use Rattle.rules.specs.Base.{if◌then◌else◌};
+ghost use Rattle.std.specs.Prelude.{◌≡◌, true, ◌<◌, length, set, if◌then◌else◌};
 ghost use Rattle.rules.specs.Std.{Ascending};
 ghost use Rattle.rules.specs.Std as std;
 ghost use Rattle.rules.specs.Gates as rule;

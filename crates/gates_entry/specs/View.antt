@@ -1,8 +1,8 @@
 -- What the bytes of an entry and of a region show, and their canonical form.
-use Rattle.std.specs.Prelude.{◌≡◌, refl, false, List, [], ◌∷◌, ℕ, take, drop, get_or, replicate}
+use Rattle.std.specs.Prelude.{◌≡◌, refl, false, List, [], ◌∷◌, ℕ, take, drop, get_or, replicate, if◌then◌else◌}
 use Rattle.std.proofs.Math.Option.{none, some}
 use Rattle.std.proofs.Common.{lit<}
-use Rattle.rules.specs.Base.{if◌then◌else◌, Bytes}
+use Rattle.rules.specs.Base.{Bytes}
 use Rattle.rules.specs.Data.{Replay, Silence, Memory}
 use Rattle.lib_laws.specs.Cell.{num, flag_of, option_num, Code, Optional}
 use Rattle.lib_laws.specs.Fields.{cuts}

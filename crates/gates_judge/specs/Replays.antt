@@ -1,9 +1,9 @@
 -- The walk over the replays of the i-th memory, where they stand.
-use Rattle.std.specs.Prelude.{◌≡◌, true, false, List, [], ◌∷◌, map, ℕ, suc, ◌+◌, ◌*◌, ◌≤◌, ◌<◌, leb, length, take, drop, get_or}
+use Rattle.std.specs.Prelude.{◌≡◌, true, false, List, [], ◌∷◌, map, ℕ, suc, ◌+◌, ◌*◌, ◌≤◌, ◌<◌, leb, length, take, drop, get_or, if◌then◌else◌}
 use Rattle.std.proofs.Common.{sym, ap, ◌∙◌, add-one, arith, le-leb, drop_of_length-le}
 use Rattle.std.proofs.Math.Option.{Option, none, some}
 use Rattle.std.proofs.lemmas.Bool.{lt-leb}
-use Rattle.rules.specs.Base.{if◌then◌else◌, Bytes, same}
+use Rattle.rules.specs.Base.{Bytes, same}
 use Rattle.rules.specs.Time.{Params, younger}
 use Rattle.rules.specs.Data.{Replay, Refusal, Replayed, ReplayFull}
 use Rattle.rules.specs.Gates.{seen_in, recent_replays, replayed}

@@ -1,10 +1,10 @@
 -- The cells of the i-th memory that decide, in the rules that judge; and the judgement by a blank memory.
-use Rattle.std.specs.Prelude.{◌≡◌, refl, Bool, true, false, not, ◌&&◌, ◌||◌, ℕ, ◌+◌, ◌*◌, ◌<◌, eqb, leb, ltb, take, drop}
+use Rattle.std.specs.Prelude.{◌≡◌, refl, Bool, true, false, not, ◌&&◌, ◌||◌, ℕ, ◌+◌, ◌*◌, ◌<◌, eqb, leb, ltb, take, drop, if◌then◌else◌}
 use Rattle.std.proofs.Common.{sym, ◌∙◌}
 use Rattle.std.proofs.Math.Path.{ap}
 use Rattle.std.proofs.Math.Option.{Option, none, some}
 use Rattle.std.proofs.Math.Nat.{add-zero}
-use Rattle.rules.specs.Base.{if◌then◌else◌, option, or_else, Bytes}
+use Rattle.rules.specs.Base.{option, or_else, Bytes}
 use Rattle.rules.specs.Time.{Params}
 use Rattle.rules.specs.Data.{Silence, Held, Source, Refusal, Dampened, ReplayFull}
 use Rattle.rules.specs.Gates.{blank, differ, recent, silencing, replayed, young, dampened, judge, gated, judged}

@@ -1,9 +1,9 @@
 // The judgement of a msg1, from what is remembered of its peer where that stands.
 #![tactic(auto)]
 
-ghost use Rattle.std.specs.Prelude.{◌≡◌, ◌<◌};
+ghost use Rattle.std.specs.Prelude.{◌≡◌, ◌<◌, if◌then◌else◌};
 ghost use Rattle.std.proofs.Math.Option.{none, some};
-ghost use Rattle.rules.specs.Base.{if◌then◌else◌, option, or_else, Bytes};
+ghost use Rattle.rules.specs.Base.{option, or_else, Bytes};
 ghost use Rattle.rules.specs.Gates as rule;
 ghost use Rattle.params.specs.View.{view_params};
 ghost use Rattle.gates_types.specs.View.{source_of, refused_by, held_of, view_liveness};

@@ -1,9 +1,8 @@
 // The digests that promoted a peer unheard, the oldest first.
 #![tactic(auto)]
 
-ghost use Rattle.std.specs.Prelude.{◌≡◌, ◌+◌, ◌≤◌, ◌<◌};
+ghost use Rattle.std.specs.Prelude.{◌≡◌, ◌+◌, ◌≤◌, ◌<◌, if◌then◌else◌};
 ghost use mathlib.Core.List.{[], ◌∷◌, ◌++◌, tail};
-ghost use Rattle.rules.specs.Base.{if◌then◌else◌};
 ghost use Rattle.rules.specs.Gates.{recent_replays, seen_in, limited, noted};
 ghost use Rattle.gates_types.specs.View.{view_replay, view_replays, FitReplay, FitReplays, spanned};
 

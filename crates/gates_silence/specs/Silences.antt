@@ -1,12 +1,12 @@
 -- An ending counted in a silence, and what the tests of the code say of the rules that count it.
-use Rattle.std.specs.Prelude.{◌≡◌, Bool, true, false, not, ℕ, ◌-◌, ◌≤◌, ◌<◌}
+use Rattle.std.specs.Prelude.{◌≡◌, Bool, true, false, not, ℕ, ◌-◌, ◌≤◌, ◌<◌, if◌then◌else◌}
 use Rattle.std.proofs.Common.{sym, ◌∙◌}
 use Rattle.std.proofs.Math.Path.{ap}
 use Rattle.std.proofs.Math.Option.{Option, none, some}
 use mathlib.Core.List.{List, []}
 use borrow.Author.Tests.{lt-ltb, le-ltb, eq-eqb, ne_eqb, not-true, not-false}
 use Rattle.std.proofs.Math.Dec.{ltb}
-use Rattle.rules.specs.Base.{if◌then◌else◌, option, any, same, Bytes}
+use Rattle.rules.specs.Base.{option, any, same, Bytes}
 use Rattle.rules.specs.Std.{Duration, from_nanos, saturating_add}
 use Rattle.rules.specs.Time.{Params, deadline, backoff}
 use Rattle.rules.specs.Data as rule

@@ -1,7 +1,7 @@
 // The digests of sessions that were counted as silent, the oldest first.
-ghost use Rattle.std.specs.Prelude.{◌≡◌, ◌≤◌, ◌<◌, eqb, length};
+ghost use Rattle.std.specs.Prelude.{◌≡◌, ◌≤◌, ◌<◌, eqb, length, if◌then◌else◌};
 ghost use mathlib.Core.List.{[], ◌∷◌, ◌++◌, tail};
-ghost use Rattle.rules.specs.Base.{if◌then◌else◌, same, any};
+ghost use Rattle.rules.specs.Base.{same, any};
 ghost use Rattle.gates_types.specs.View.{view_digests, FitDigests};
 
 use gates_types::Digests;

@@ -1,8 +1,8 @@
 -- Loops over the places of a list: whether some place passes a test, and the places that pass.
-use Rattle.std.specs.Prelude.{◌≡◌, refl, Bool, true, false, ℕ, suc, ◌+◌, ◌-◌, ◌≤◌, ◌<◌, length, take, drop, get_or, set}
+use Rattle.std.specs.Prelude.{◌≡◌, refl, Bool, true, false, ℕ, suc, ◌+◌, ◌-◌, ◌≤◌, ◌<◌, length, take, drop, get_or, set, if◌then◌else◌}
 use Rattle.std.proofs.Common.{sym, ◌∙◌, add-one, arith, lt-ltb, le-ltb, length-append, drop_of_length-le}
 use mathlib.Core.List.{List, [], ◌∷◌, ◌++◌, map, tail, append_assoc, append-nil}
-use Rattle.rules.specs.Base.{if◌then◌else◌, Bytes, any, keep}
+use Rattle.rules.specs.Base.{Bytes, any, keep}
 use Rattle.rules.specs.Data.{Replay}
 use Rattle.rules.specs.Gates.{limited, noted, seen_in}
 use Rattle.lib_laws.specs.Shift.{Kept, Closing, removed, pushed}

@@ -1,9 +1,9 @@
 -- What a memory by value shows, when it is well formed, its blank values, and the meaning of each case.
-use Rattle.std.specs.Prelude.{◌≡◌, refl, Bool, false, List, [], map, ℕ, ◌≤◌, length, take, replicate}
+use Rattle.std.specs.Prelude.{◌≡◌, refl, Bool, false, List, [], map, ℕ, ◌≤◌, length, take, replicate, if◌then◌else◌}
 use Rattle.std.proofs.Math.Option.{Option, none, some}
 use Rattle.std.proofs.Common.{lit≤, lit<, Fits}
 use Rattle.std.specs.Int.{w32, w64}
-use Rattle.rules.specs.Base.{if◌then◌else◌, Bytes}
+use Rattle.rules.specs.Base.{Bytes}
 use Rattle.rules.specs.Data as rule
 use Rattle.rules.specs.Time as time
 use Rattle.rules.specs.Bounds.{IfAny}

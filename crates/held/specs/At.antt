@@ -1,8 +1,8 @@
 -- What single cells of the i-th held peer show, where they stand.
-use Rattle.std.specs.Prelude.{◌≡◌, refl, Bool, true, false, ℕ, ◌+◌, ◌*◌, ◌<◌, take, drop, replicate}
+use Rattle.std.specs.Prelude.{◌≡◌, refl, Bool, true, false, ℕ, ◌+◌, ◌*◌, ◌<◌, take, drop, replicate, if◌then◌else◌}
 use Rattle.std.proofs.Common.{sym, ap, ◌∙◌, add-zero}
 use Rattle.std.proofs.Math.Option.{none, some}
-use Rattle.rules.specs.Base.{if◌then◌else◌, is, Bytes, same}
+use Rattle.rules.specs.Base.{is, Bytes, same}
 use Rattle.rules.specs.Std.{before}
 use Rattle.rules.specs.Data.{Pair, same_pair, Held}
 use Rattle.rules.specs.Settle.{named}

@@ -1,11 +1,11 @@
 -- What a reader of a call's fields answers, from a place of the record up to its end.
-use Rattle.std.specs.Prelude.{◌≡◌, refl, Bool, true, false, not, ◌&&◌, List, [], ◌∷◌, ℕ, zero, suc, ◌≤◌, eqb, length, drop}
+use Rattle.std.specs.Prelude.{◌≡◌, refl, Bool, true, false, not, ◌&&◌, List, [], ◌∷◌, ℕ, zero, suc, ◌≤◌, eqb, length, drop, if◌then◌else◌}
 use Rattle.std.proofs.Common.{sym, ◌∙◌, true≢false, arith, eqb-true, drop-cons}
 use Rattle.std.proofs.Math.Option.{Option, none, some}
 use Rattle.std.proofs.lemmas.Bool.{eqb-false, not-true, not-false}
 use Rattle.std.proofs.Math.Seq.{drop-length}
 use Rattle.std.proofs.Math.ListN.{get_elem?}
-use Rattle.rules.specs.Base.{if◌then◌else◌, option, Bytes}
+use Rattle.rules.specs.Base.{option, Bytes}
 use Rattle.rules.specs.Data.{Call}
 use Rattle.rules.specs.Field.{Reader, give, fail}
 use Rattle.rules.specs.Record.{kinds, finished}

@@ -1,4 +1,5 @@
 -- The bytes determine what a reader answers: whether it reads, then value and next place, else the blank answer.
+use Rattle.std.specs.Prelude.{if◌then◌else◌}
 use mathlib.Core.Path.{◌≡◌, refl, sym, ap, ◌∙◌}
 use mathlib.Core.Bool.{Bool, true, false, true≢false}
 use mathlib.Core.Option.{Option, none, some}
@@ -6,7 +7,6 @@ use mathlib.Core.List.{List}
 use Prim.Native.Nat.{ℕ, ◌≤◌}
 use native.Mathlib.Omega.{arith}
 use lib.ListN.{length, drop, length-drop}
-use Rattle.rules.specs.Base.{if◌then◌else◌}
 use Rattle.rules.specs.Field.{Reader}
 use Rattle.input_cursor.specs.Follow.{Stepped}
 

@@ -1,9 +1,9 @@
 -- Readers in a row: each takes whether all went well so far and where it stands, and passes both on.
-use Rattle.std.specs.Prelude.{ℕ, ◌+◌, ◌≤◌, ◌≡◌, refl, Bool, true, false, not, List, length, drop}
+use Rattle.std.specs.Prelude.{ℕ, ◌+◌, ◌≤◌, ◌≡◌, refl, Bool, true, false, not, List, length, drop, if◌then◌else◌}
 use Rattle.std.proofs.Common.{ap, ◌∙◌, true≢false, arith, drop-drop}
 use Rattle.std.proofs.Math.Option.{Option, none, some}
 use Rattle.std.proofs.lemmas.Bool.{not-true, not-false}
-use Rattle.rules.specs.Base.{if◌then◌else◌, option}
+use Rattle.rules.specs.Base.{option}
 use Rattle.rules.specs.Field.{Reader, bind, give}
 
 -- A reader of p took ok and at, and answers r: its own ok, the value and the next place. Where its ok is false, r is blank.

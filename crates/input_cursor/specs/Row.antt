@@ -1,9 +1,9 @@
 -- Readers in a row, made of readers that are each handed the rest of the record.
-use Rattle.std.specs.Prelude.{◌≡◌, refl, Bool, true, false, List, [], ℕ, ◌+◌, ◌-◌, ◌^◌, ◌≤◌, ◌<◌, length, take, drop, get_or}
+use Rattle.std.specs.Prelude.{◌≡◌, refl, Bool, true, false, List, [], ℕ, ◌+◌, ◌-◌, ◌^◌, ◌≤◌, ◌<◌, length, take, drop, get_or, if◌then◌else◌}
 use Rattle.std.proofs.Common.{◌∙◌, arith, rules, drop-drop, get_or-drop, length-drop, Fits}
 use Rattle.std.proofs.Math.Option.{Option, none, some}
 use Rattle.std.specs.Int.{w64}
-use Rattle.rules.specs.Base.{if◌then◌else◌, Bytes}
+use Rattle.rules.specs.Base.{Bytes}
 use Rattle.rules.specs.Field.{Reader, code, pair, message}
 use Rattle.lib_laws.specs.Parse.{rest_of_lem}
 use Rattle.input_cursor.specs.Follow.{Stepped, stepped_off, stepped_none, stepped_some}

@@ -1,5 +1,5 @@
 -- Flags, pairs and messages, as they stand at the front of what is left of a record.
-use Rattle.std.specs.Prelude.{◌≡◌, Bool, not, [], ◌∷◌, ◌++◌, ℕ, zero, suc, ◌+◌, ◌*◌, ◌-◌, ◌≤◌, ◌<◌, eqb, length, take, drop, get_or, replicate}
+use Rattle.std.specs.Prelude.{◌≡◌, Bool, not, [], ◌∷◌, ◌++◌, ℕ, zero, suc, ◌+◌, ◌*◌, ◌-◌, ◌≤◌, ◌<◌, eqb, length, take, drop, get_or, replicate, if◌then◌else◌}
 use Rattle.std.proofs.Math.Path.{refl}
 use Rattle.std.proofs.Common.{sym, ap, ◌∙◌, arith, leb-true, leb-false, length-take-le}
 use Rattle.std.proofs.Math.Bool.{true, false}
@@ -8,7 +8,7 @@ use Rattle.std.proofs.lemmas.Bool.{not-true, not-false}
 use Rattle.std.proofs.Math.Dec.{leb}
 use Rattle.std.proofs.Math.Seq.{drop-drop}
 use Rattle.std.proofs.Math.ListN.{length-drop}
-use Rattle.rules.specs.Base.{if◌then◌else◌, option, Bytes}
+use Rattle.rules.specs.Base.{option, Bytes}
 use Rattle.rules.specs.Field.{bind, bytes, up_to, pair, message, flags, flag, more}
 use Rattle.lib_laws.specs.Parse.{number_yes, number_no, up_to_yes, up_to_no, up_to_big, byte_is}
 use Rattle.lib_laws.specs.Buffer.{kept_filled, shown_filled}

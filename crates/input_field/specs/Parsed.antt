@@ -1,10 +1,10 @@
 -- What a field's reader answers of the bytes that it was handed.
-use Rattle.std.specs.Prelude.{◌≡◌, refl, Bool, true, false, List, [], ◌∷◌, ℕ, zero, suc, ◌≤◌, ◌<◌, ltb, length, take, drop, get_or}
+use Rattle.std.specs.Prelude.{◌≡◌, refl, Bool, true, false, List, [], ◌∷◌, ℕ, zero, suc, ◌≤◌, ◌<◌, ltb, length, take, drop, get_or, if◌then◌else◌}
 use Rattle.std.proofs.Common.{sym, ◌∙◌, arith, rules}
 use Rattle.std.proofs.Math.Option.{Option, none, some}
 use borrow.Author.Tests.{lt-ltb, le-ltb, ltb-true, ltb-false}
 use Rattle.std.proofs.Math.ListN.{get_elem?}
-use Rattle.rules.specs.Base.{if◌then◌else◌, option, Bytes}
+use Rattle.rules.specs.Base.{option, Bytes}
 use Rattle.rules.specs.Field.{Reader, bind, number, bytes, code, more}
 use Rattle.lib_laws.specs.Parse.{bytes_yes, bytes_no, number_yes, number_no, byte_is}
 

@@ -1,5 +1,5 @@
 -- What a change of some cells of one entry makes of the region: a resend that is counted, an answer marked sent, or unsent.
-use Rattle.std.specs.Prelude.{◌≡◌, Bool, true, false, ℕ, ◌+◌, ◌*◌, ◌≤◌, ◌<◌, get_or}
+use Rattle.std.specs.Prelude.{◌≡◌, Bool, true, false, ℕ, ◌+◌, ◌*◌, ◌≤◌, ◌<◌, get_or, if◌then◌else◌}
 use Rattle.std.proofs.Math.Path.{refl, sym, ap}
 use Rattle.std.proofs.Common.{◌∙◌, subst, lit≤, lit<, Fits}
 use Rattle.std.proofs.Math.Option.{none, some}
@@ -8,7 +8,7 @@ use native.Mathlib.Omega.{arith}
 use Rattle.std.proofs.lemmas.Bool.{eqb-false}
 use Rattle.std.proofs.Math.ListN.{length, set}
 use Rattle.std.specs.Int.{w32, w64}
-use Rattle.rules.specs.Base.{if◌then◌else◌, one, Bytes}
+use Rattle.rules.specs.Base.{one, Bytes}
 use Rattle.rules.specs.Field.{digits}
 use Rattle.rules.specs.Data.{Kind, Leg}
 use Rattle.rules.specs.Legs.{sent_kind, unsent_kind, mark_sent, mark_unsent, with_kind}

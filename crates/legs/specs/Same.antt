@@ -1,8 +1,8 @@
 -- Zeroed memory has no legs; and regions that fit and show the same are the same bytes.
-use Rattle.std.specs.Prelude.{◌≡◌, refl, Bool, true, false, [], map, ℕ, length, take, drop, replicate}
+use Rattle.std.specs.Prelude.{◌≡◌, refl, Bool, true, false, [], map, ℕ, length, take, drop, replicate, if◌then◌else◌}
 use Rattle.std.proofs.Common.{sym, ap, ◌∙◌, arith, lit≤}
 use Rattle.std.proofs.lemmas.List.{get_or-replicate}
-use Rattle.rules.specs.Base.{if◌then◌else◌, Bytes, All}
+use Rattle.rules.specs.Base.{Bytes, All}
 use Rattle.rules.specs.Bounds.{IsByte}
 use Rattle.rules.specs.Data.{Answered, Kind, Leg}
 use Rattle.lib_laws.specs.Cell.{flag_of, flag_same, text_same, option_num_same, option_bytes_same}

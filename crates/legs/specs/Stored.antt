@@ -1,12 +1,12 @@
 -- The search for a stored msg2: over the links from the newest down, over the addresses of each, for a leg that yields one.
-use Rattle.std.specs.Prelude.{◌≡◌, refl, Bool, true, false, not, ◌&&◌, ◌||◌, ℕ, suc, ◌+◌, ◌-◌, ◌≤◌, ◌<◌, length, take, drop, get_or}
+use Rattle.std.specs.Prelude.{◌≡◌, refl, Bool, true, false, not, ◌&&◌, ◌||◌, ℕ, suc, ◌+◌, ◌-◌, ◌≤◌, ◌<◌, length, take, drop, get_or, if◌then◌else◌}
 use Rattle.std.proofs.Common.{sym, ◌∙◌, add-one, eqb-true, drop-cons, take_all, take-suc, drop_of_length-le}
 use Rattle.std.proofs.Math.Path.{ap}
 use Rattle.std.proofs.Math.Option.{Option, none, some}
 use mathlib.Core.List.{List, [], ◌∷◌, ◌++◌, map}
 use native.Mathlib.Omega.{arith}
 use Rattle.std.proofs.lemmas.List.{length-map}
-use Rattle.rules.specs.Base.{if◌then◌else◌, option, is, or_else, Bytes, same, find, any}
+use Rattle.rules.specs.Base.{option, is, or_else, Bytes, same, find, any}
 use Rattle.rules.specs.Data.{Pair, same_pair, PathRec, LinkRec, Answered, Leg}
 use Rattle.rules.specs.Links.{proven_at, indexed}
 use Rattle.rules.specs.Legs.{on_link, answered, stored_msg2}

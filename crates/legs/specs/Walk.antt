@@ -1,12 +1,12 @@
 -- Loops over the legs: a search, the count of the answers, the earliest wake.
-use Rattle.std.specs.Prelude.{◌≡◌, refl, Bool, true, false, not, ℕ, ◌+◌, ◌≤◌, ◌<◌, min, length, drop}
+use Rattle.std.specs.Prelude.{◌≡◌, refl, Bool, true, false, not, ℕ, ◌+◌, ◌≤◌, ◌<◌, min, length, drop, if◌then◌else◌}
 use Rattle.std.proofs.Common.{sym, ◌∙◌, add-one, Fits, drop-cons, drop_of_length-le}
 use Rattle.std.proofs.Math.Path.{ap}
 use Rattle.std.proofs.Math.Option.{Option, none, some}
 use mathlib.Core.List.{List, [], ◌∷◌}
 use native.Mathlib.Omega.{arith}
 use Rattle.std.specs.Int.{w64}
-use Rattle.rules.specs.Base.{if◌then◌else◌, option, one, Bytes, keep}
+use Rattle.rules.specs.Base.{option, one, Bytes, keep}
 use Rattle.rules.specs.Data.{Leg}
 use Rattle.rules.specs.Legs.{answers, answering, wake, next_wake}
 use Rattle.lib_laws.specs.Shift.{shown}

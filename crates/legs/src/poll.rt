@@ -1,6 +1,6 @@
 // What poll and wake look for: answers in flight, legs past their deadline, resends that are due, the earliest of them.
-ghost use Rattle.std.specs.Prelude.{◌≡◌, true, false, ◌≤◌, ◌<◌, min, drop};
-ghost use Rattle.rules.specs.Base.{if◌then◌else◌, one};
+ghost use Rattle.std.specs.Prelude.{◌≡◌, true, false, ◌≤◌, ◌<◌, min, drop, if◌then◌else◌};
+ghost use Rattle.rules.specs.Base.{one};
 ghost use Rattle.rules.specs.Legs.{answering, wake, next_wake};
 ghost use Rattle.lib_laws.specs.Scan.{scan};
 ghost use Rattle.node_addr.specs.View.{Finds};

@@ -1,12 +1,12 @@
 -- What single cells of the i-th leg show, where they stand.
-use Rattle.std.specs.Prelude.{◌≡◌, Bool, false, ◌||◌, List, [], ℕ, ◌+◌, ◌*◌, ◌≤◌, ◌<◌, leb, length, take, drop, replicate}
+use Rattle.std.specs.Prelude.{◌≡◌, Bool, false, ◌||◌, List, [], ℕ, ◌+◌, ◌*◌, ◌≤◌, ◌<◌, leb, length, take, drop, replicate, if◌then◌else◌}
 use Rattle.std.proofs.Math.Path.{refl}
 use Rattle.std.proofs.Common.{sym, ap, ◌∙◌, add-zero, arith, lit≤, lt-ltb, le-ltb, le-leb, take-take, length-take-le, length-drop}
 use Rattle.std.proofs.Math.Bool.{true, not}
 use Rattle.std.proofs.Math.Option.{Option, none, some}
 use Rattle.std.proofs.Math.Dec.{ltb}
 use Rattle.std.proofs.lemmas.Bool.{lt-leb}
-use Rattle.rules.specs.Base.{if◌then◌else◌, option, is, Bytes, same}
+use Rattle.rules.specs.Base.{option, is, Bytes, same}
 use Rattle.rules.specs.Field.{more}
 use Rattle.rules.specs.Data.{Kind, Answered, Leg}
 use Rattle.rules.specs.Legs.{answered, answers, stored_msg2, due, wake}

@@ -1,8 +1,7 @@
 -- The resends of a leg, and what an answer starts from.
-use Rattle.std.specs.Prelude.{◌≡◌, refl, Bool, true, false, ℕ, ◌<◌, ◌≤◌, ltb}
+use Rattle.std.specs.Prelude.{◌≡◌, refl, Bool, true, false, ℕ, ◌<◌, ◌≤◌, ltb, if◌then◌else◌}
 use Rattle.std.proofs.Math.Option.{Option, none, some}
 use Rattle.std.proofs.Common.{lt-ltb, le-ltb}
-use Rattle.rules.specs.Base.{if◌then◌else◌}
 use Rattle.rules.specs.Std.{from_nanos, duration_max, saturating_add}
 use Rattle.rules.specs.Time.{Params, backoff, deadline}
 use Rattle.rules.specs.Data.{Pair, Hello, Leg}

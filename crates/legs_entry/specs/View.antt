@@ -1,8 +1,8 @@
 -- What the bytes of an entry, a region and a leg by value show, and their canonical form.
-use Rattle.std.specs.Prelude.{◌≡◌, refl, false, List, [], ◌∷◌, ℕ, length, get_or, replicate}
+use Rattle.std.specs.Prelude.{◌≡◌, refl, false, List, [], ◌∷◌, ℕ, length, get_or, replicate, if◌then◌else◌}
 use Rattle.std.proofs.Math.Option.{none, some}
 use Rattle.std.proofs.Common.{lit≤, lit<}
-use Rattle.rules.specs.Base.{if◌then◌else◌, Bytes}
+use Rattle.rules.specs.Base.{Bytes}
 use Rattle.rules.specs.Data.{Answered, Kind, Leg}
 use Rattle.lib_laws.specs.Buffer.{all_any}
 use Rattle.lib_laws.specs.Cell.{num, flag_of, text_of, option_num, option_bytes, Code, Text, Optional}

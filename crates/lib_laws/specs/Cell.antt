@@ -1,8 +1,8 @@
 -- A cell is a field's bytes within an entry. What cells show, when they are canonical, and that canonical cells which show the same are the same.
-use Rattle.std.specs.Prelude.{◌≡◌, refl, Bool, true, false, [], ◌∷◌, ℕ, zero, suc, ◌+◌, ◌*◌, ◌≤◌, ◌<◌, eqb, length, take, drop, get_or, replicate}
+use Rattle.std.specs.Prelude.{◌≡◌, refl, Bool, true, false, [], ◌∷◌, ℕ, zero, suc, ◌+◌, ◌*◌, ◌≤◌, ◌<◌, eqb, length, take, drop, get_or, replicate, if◌then◌else◌}
 use Rattle.std.proofs.Common.{sym, ap, ◌∙◌, add-zero, arith, lit<, get_or-take, get_or-drop, length-take, take-append-drop}
 use Rattle.std.proofs.Math.Option.{Option, none, some}
-use Rattle.rules.specs.Base.{if◌then◌else◌, option, one, Bytes, All}
+use Rattle.rules.specs.Base.{option, one, Bytes, All}
 use Rattle.rules.specs.Bounds.{IsByte}
 use Rattle.rules.specs.Field.{more}
 use Rattle.lib_laws.specs.Shift.{Kept}

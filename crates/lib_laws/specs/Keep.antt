@@ -1,8 +1,8 @@
 -- A list filtered in place: what passes is moved towards the front, and the places behind it are made blank.
-use Rattle.std.specs.Prelude.{ℕ, zero, suc, ◌+◌, ◌-◌, ◌≤◌, ◌<◌, ◌≡◌, refl, Bool, true, false, List, [], ◌∷◌, ◌++◌, map, length, take, drop, get_or, set, replicate}
+use Rattle.std.specs.Prelude.{ℕ, zero, suc, ◌+◌, ◌-◌, ◌≤◌, ◌<◌, ◌≡◌, refl, Bool, true, false, List, [], ◌∷◌, ◌++◌, map, length, take, drop, get_or, set, replicate, if◌then◌else◌}
 use Rattle.std.proofs.Common.{sym, ap, ◌∙◌, append_assoc, append-nil, add-zero, zero-add, add-one, arith, rules, drop-drop, take-suc, take-suc-set, drop-set-lt, get_or-drop, drop-cons, length-take-le, take_at, drop_at, length-append, length-take, length-set, take-append-drop}
 use Rattle.std.proofs.lemmas.List.{take-set-le, set_at, length-replicate}
-use Rattle.rules.specs.Base.{if◌then◌else◌, keep, one, All}
+use Rattle.rules.specs.Base.{keep, one, All}
 use Rattle.lib_laws.specs.Shift.{Kept, all_take, all_append, all_replicate}
 
 keep_append : {A : Type 0} (t : A → Bool) (xs ys : List A) → keep t (xs ++ ys) ≡ keep t xs ++ keep t ys

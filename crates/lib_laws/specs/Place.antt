@@ -2,13 +2,13 @@
 use Prim.Native.Nat.{ℕ, suc, ◌-◌, ◌≤◌, ◌<◌, suc-le-suc}
 use Rattle.std.proofs.Math.Path.{◌≡◌, refl, subst}
 use Rattle.std.proofs.Common.{ap, ◌∙◌}
-use Rattle.std.specs.Prelude.{Bool, length, take, drop, get_or, set}
+use Rattle.std.specs.Prelude.{Bool, length, take, drop, get_or, set, if◌then◌else◌}
 use Rattle.std.proofs.Math.Bool.{true, false}
 use Rattle.std.proofs.Math.Option.{none, some}
 use mathlib.Core.List.{List, [], ◌∷◌, ◌++◌, tail}
 use Rattle.std.proofs.Math.Numerals.{add-one}
 use native.Mathlib.Omega.{arith}
-use Rattle.rules.specs.Base.{if◌then◌else◌, find, without, alter, any, All}
+use Rattle.rules.specs.Base.{find, without, alter, any, All}
 use Rattle.rules.specs.Std as std
 use Rattle.lib_laws.specs.Shift.{erase, insert}
 use Rattle.lib_laws.specs.Scan.{scan}

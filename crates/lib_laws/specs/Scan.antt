@@ -1,10 +1,9 @@
 -- The first element of a list that passes a test: `scan t i xs` is its place, counted from i.
 -- A loop that looks for it keeps the equation "the answer is the answer of what is left": scan t 0 xs ≡ scan t i (drop i xs).
-use Rattle.std.specs.Prelude.{ℕ, suc, ◌+◌, ◌≤◌, ◌<◌, ◌≡◌, refl, Bool, true, false, List, [], ◌∷◌, map, eqb, length, take, drop, get_or}
+use Rattle.std.specs.Prelude.{ℕ, suc, ◌+◌, ◌≤◌, ◌<◌, ◌≡◌, refl, Bool, true, false, List, [], ◌∷◌, map, eqb, length, take, drop, get_or, if◌then◌else◌}
 use Rattle.std.proofs.Common.{◌∙◌, add-one, arith, rules, eq-eqb, ne_eqb, drop-cons, get_or-take, drop_of_length-le, length-take}
 use Rattle.std.proofs.Math.Option.{Option, none, some}
 use Rattle.lib_laws.specs.Shift.{Kept}
-use Rattle.rules.specs.Base.{if◌then◌else◌}
 use Rattle.std.proofs.lemmas.List.{length-map}
 use Rattle.std.proofs.Math.ListN.{get_or-map}
 

@@ -1,12 +1,12 @@
 -- The list of the connections to close: the addresses of a record once each, and those that no link uses.
-use Rattle.std.specs.Prelude.{◌≡◌, Bool, ◌||◌, ℕ, suc, ◌+◌, ◌≤◌, ◌<◌, length, take, get_or, replicate}
+use Rattle.std.specs.Prelude.{◌≡◌, Bool, ◌||◌, ℕ, suc, ◌+◌, ◌≤◌, ◌<◌, length, take, get_or, replicate, if◌then◌else◌}
 use Rattle.std.proofs.Math.Path.{refl, sym, ap}
 use Rattle.std.proofs.Common.{◌∙◌, add-one, arith, lit≤, drop_of_length-le}
 use Rattle.std.proofs.Math.Bool.{true, false, not}
 use Rattle.std.proofs.Math.Option.{some, none}
 use mathlib.Core.List.{List, [], ◌∷◌, ◌++◌, map, append_assoc, append-nil}
 use Rattle.std.proofs.Math.ListN.{drop}
-use Rattle.rules.specs.Base.{if◌then◌else◌, any, keep}
+use Rattle.rules.specs.Base.{any, keep}
 use Rattle.rules.specs.Data.{Pair, same_pair, PathRec, LinkRec}
 use Rattle.rules.specs.Links.{numbered, in_use, once, addresses, retiring, released, releasing}
 use Rattle.lib_laws.specs.Shift.{Kept, erase, all_replicate}

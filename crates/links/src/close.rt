@@ -1,6 +1,6 @@
 // The connections that a link leaves to close.
-ghost use Rattle.std.specs.Prelude.{◌≡◌, not, [], ◌∷◌, ◌++◌, ◌+◌, ◌≤◌, ◌<◌};
-ghost use Rattle.rules.specs.Base.{if◌then◌else◌, any, keep};
+ghost use Rattle.std.specs.Prelude.{◌≡◌, not, [], ◌∷◌, ◌++◌, ◌+◌, ◌≤◌, ◌<◌, if◌then◌else◌};
+ghost use Rattle.rules.specs.Base.{any, keep};
 ghost use Rattle.rules.specs.Data.{same_pair};
 ghost use Rattle.rules.specs.Links.{in_use, addresses, retired, retiring, released, releasing};
 ghost use Rattle.node_addr.specs.View.{FitPair, view_pair};

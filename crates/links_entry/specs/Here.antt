@@ -1,10 +1,10 @@
 -- What stands at a place of the links, and of a link's paths, read where it stands.
-use Rattle.std.specs.Prelude.{◌≡◌, refl, Bool, true, false, ◌&&◌, ◌||◌, ℕ, zero, suc, ◌+◌, ◌-◌, ◌*◌, ◌≤◌, ◌<◌, eqb, length, take, drop, get_or}
+use Rattle.std.specs.Prelude.{◌≡◌, refl, Bool, true, false, ◌&&◌, ◌||◌, ℕ, zero, suc, ◌+◌, ◌-◌, ◌*◌, ◌≤◌, ◌<◌, eqb, length, take, drop, get_or, if◌then◌else◌}
 use Rattle.std.proofs.Math.Path.{sym, ap}
 use Rattle.std.proofs.Common.{◌∙◌, subst, add-zero, arith, rules, eq-eqb, ne_eqb, lit≤, lit<, get_or-take, get_or-drop, take-take}
 use Rattle.std.proofs.Math.Bool.{not}
 use mathlib.Core.List.{List, [], ◌∷◌, map}
-use Rattle.rules.specs.Base.{if◌then◌else◌, Bytes, empty, any}
+use Rattle.rules.specs.Base.{Bytes, empty, any}
 use Rattle.rules.specs.Data.{Pair, same_pair, Inbound, Outbound, ALeg, APeer, Proven, PathRec, LinkRec}
 use Rattle.rules.specs.Links.{counts, is_leg, path_at, proven_at, uses, indexed}
 use Rattle.lib_laws.specs.Shift.{erase, shown, fit_at}

@@ -1,7 +1,7 @@
 -- A link record read whole, by value.
-use Rattle.std.specs.Prelude.{◌≡◌, refl, [], ◌∷◌, map, ℕ, zero, suc, ◌+◌, ◌*◌, ◌<◌, eqb, take, drop, get_or}
+use Rattle.std.specs.Prelude.{◌≡◌, refl, [], ◌∷◌, map, ℕ, zero, suc, ◌+◌, ◌*◌, ◌<◌, eqb, take, drop, get_or, if◌then◌else◌}
 use Rattle.std.proofs.Common.{sym, ap, ◌∙◌, add-zero, arith, lit≤, lit<, take-take, drop-drop, length-take-le, length-drop}
-use Rattle.rules.specs.Base.{if◌then◌else◌, Bytes}
+use Rattle.rules.specs.Base.{Bytes}
 use Rattle.rules.specs.Data.{ALeg, APeer, LinkRec}
 use Rattle.lib_laws.specs.Shift.{Kept}
 use Rattle.lib_laws.specs.Cell.{num}

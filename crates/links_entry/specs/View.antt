@@ -1,6 +1,6 @@
 -- What link records in memory and by value show, and their canonical form.
-use Rattle.std.specs.Prelude.{◌≡◌, Bool, true, false, not, ◌&&◌, ◌||◌, List, [], ◌∷◌, map, ℕ, eqb, leb, length, take, drop, get_or, replicate}
-use Rattle.rules.specs.Base.{if◌then◌else◌, option, find, any, keep, Bytes}
+use Rattle.std.specs.Prelude.{◌≡◌, Bool, true, false, not, ◌&&◌, ◌||◌, List, [], ◌∷◌, map, ℕ, eqb, leb, length, take, drop, get_or, replicate, if◌then◌else◌}
+use Rattle.rules.specs.Base.{option, find, any, keep, Bytes}
 use Rattle.rules.specs.Data.{Pair, same_pair, Dir, Inbound, Outbound, Holder, ALeg, APeer, Proven, Live, Acked, Probing, PathRec, LinkRec}
 use Rattle.rules.specs.Links.{numbered, path_at}
 use Rattle.lib_laws.specs.Shift.{Kept}

@@ -1,8 +1,7 @@
 // The outputs with a list of pairs.
 #![tactic(auto)]
 
-ghost use Rattle.std.specs.Prelude.{[], ◌∷◌, ◌+◌, ◌≤◌, ◌<◌, length};
-ghost use Rattle.rules.specs.Base.{if◌then◌else◌};
+ghost use Rattle.std.specs.Prelude.{[], ◌∷◌, ◌+◌, ◌≤◌, ◌<◌, length, if◌then◌else◌};
 ghost use Rattle.rules.specs.Data.{Output, Retire};
 ghost use Rattle.rules.specs.Output.{pairs_bytes, output_record};
 ghost use Rattle.lib_laws.specs.Splice.{Wrote};

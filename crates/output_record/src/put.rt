@@ -1,7 +1,6 @@
 // The outputs of one record each, but those with a list.
 ghost use Rattle.std.proofs.Math.Option.{none, some};
-ghost use Rattle.std.specs.Prelude.{◌+◌, ◌≤◌, length, take, drop};
-ghost use Rattle.rules.specs.Base.{if◌then◌else◌};
+ghost use Rattle.std.specs.Prelude.{◌+◌, ◌≤◌, length, take, drop, if◌then◌else◌};
 ghost use Rattle.rules.specs.Data.{Output, Opened, Resend, Rekey, Install, Reset, Free, Retry, Reject};
 ghost use Rattle.rules.specs.Output.{output_record, done_record};
 ghost use Rattle.lib_laws.specs.Splice.{Wrote};

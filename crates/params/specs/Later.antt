@@ -1,8 +1,8 @@
 -- The time arithmetic of the code against the rules: the shift, the product that is cut, the sum that may not fit.
-use Rattle.std.specs.Prelude.{◌≡◌, refl, ℕ, ◌+◌, ◌-◌, ◌*◌, ◌/◌, ◌%◌, ◌^◌, ◌≤◌, ◌<◌, min, ltb}
+use Rattle.std.specs.Prelude.{◌≡◌, refl, ℕ, ◌+◌, ◌-◌, ◌*◌, ◌/◌, ◌%◌, ◌^◌, ◌≤◌, ◌<◌, min, ltb, if◌then◌else◌}
 use Rattle.std.proofs.Common.{sym, ap, ◌∙◌, le-div_iff_mul-le, div-lt_iff_lt-mul, arith, rules, lt-ltb, le-ltb, lit<, pow_pos, Fits}
 use Rattle.std.specs.Int.{w64}
-use Rattle.rules.specs.Base.{option, if◌then◌else◌}
+use Rattle.rules.specs.Base.{option}
 use Rattle.rules.specs.Std.{from_nanos, duration_max, saturating_since, checked_shl, u32_max}
 use Rattle.rules.specs.Time as rule
 use Rattle.rules.proofs.Time.{ceiling_nanos, shl_one, shifted, backoff_nanos, deadline_nanos, resend_nanos, younger_nanos}

@@ -1,4 +1,5 @@
 -- What the values of an accepted record keep to, and that it is their spelling.
+use Rattle.std.specs.Prelude.{if◌then◌else◌}
 use mathlib.Core.Path.{◌≡◌, refl, ◌∙◌}
 use mathlib.Core.Bool.{Bool, true, false, ◌&&◌, ◌||◌}
 use mathlib.Core.Option.{Option, none, some}
@@ -8,7 +9,7 @@ use native.Mathlib.Omega.{arith}
 use borrow.Author.Tests.{eqb-true, eqb-false, ltb-false}
 use lib.Dec.{eqb, ltb, lit<}
 use lib.ListN.{length, get_elem?, length-append}
-use Rattle.rules.specs.Base.{if◌then◌else◌, option, Bytes, All}
+use Rattle.rules.specs.Base.{option, Bytes, All}
 use Rattle.rules.specs.Time.{Params, default, out_of_range}
 use Rattle.rules.specs.Data.{Pair, Hello, Call}
 use Rattle.rules.specs.Field.{Reader, give, fail, bind, number, digits, frame}

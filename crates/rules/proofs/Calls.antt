@@ -1,4 +1,5 @@
 -- Each call keeps the invariant and the leases, and closes nothing in use.
+use Rattle.std.specs.Prelude.{if◌then◌else◌}
 use mathlib.Core.Path.{◌≡◌, refl, ap}
 use mathlib.Core.Bool.{Bool, true, false, not, ◌&&◌, ◌||◌}
 use mathlib.Core.Option.{Option, none, some}
@@ -8,7 +9,7 @@ use Prim.Native.Nat.{ℕ, ◌+◌, ◌-◌, ◌^◌, ◌≤◌}
 use native.Mathlib.Omega.{arith}
 use lib.Dec.{eqb, leb, ltb}
 use lib.ListN.{length}
-use Rattle.rules.specs.Base.{if◌then◌else◌, option, is, Bytes, same, empty, any, keep, alter, tally, one, All}
+use Rattle.rules.specs.Base.{option, is, Bytes, same, empty, any, keep, alter, tally, one, All}
 use Rattle.rules.specs.Std.{before}
 use Rattle.rules.specs.Data.{Pair, same_pair, APeer, Proven, LinkRec, Leg, Held, Memory, Table, Hello, Call, Source, Why, Transition, Installed, Output, Step, Result}
 use Rattle.rules.specs.Data.{Resend, Install, Reset, Free, Retry, Replace, Keep}

@@ -1,4 +1,5 @@
 -- What a field's reader accepts fits its width and is the only spelling of it, and what is spelt reads back.
+use Rattle.std.specs.Prelude.{if◌then◌else◌}
 use mathlib.Core.Path.{◌≡◌, refl, sym, ap, subst, ◌∙◌}
 use mathlib.Core.Bool.{Bool, true, false}
 use mathlib.Core.Option.{Option, none, some}
@@ -11,7 +12,7 @@ use lib.Arith.{digits_lt}
 use lib.Dec.{leb, lit<}
 use lib.Seq.{take_at, drop_at, length-take-le}
 use lib.ListN.{length, take, drop, get_elem?, length-append, take-append-drop}
-use Rattle.rules.specs.Base.{if◌then◌else◌, option, one, Bytes, All}
+use Rattle.rules.specs.Base.{option, one, Bytes, All}
 use Rattle.rules.specs.Data.{Live, Acked, Probing, Why, Ended, Orphaned, Disconnect, Dead, Admin, Closed, OwnRestart}
 use Rattle.rules.specs.Field.{Reader, give, fail, bind, more, digits, bytes, number, up_to, code, flags, flag, whys, states, why_code, state_code, pair, message, pair_bytes, message_bytes}
 use Rattle.rules.specs.Bounds.{IsByte, Exactly, AtMost, PairFits}

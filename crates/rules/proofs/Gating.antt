@@ -1,4 +1,5 @@
 -- What the gates keep of a peer stays within its widths and limits.
+use Rattle.std.specs.Prelude.{if◌then◌else◌}
 use mathlib.Core.Path.{◌≡◌, refl}
 use mathlib.Core.Bool.{false, ◌||◌}
 use mathlib.Core.Option.{Option, none, some}
@@ -8,7 +9,7 @@ use native.Mathlib.Omega.{arith}
 use borrow.Author.Tests.{ltb-false, eqb-false}
 use lib.Dec.{eqb, ltb}
 use lib.ListN.{length}
-use Rattle.rules.specs.Base.{if◌then◌else◌, option, or_else, Bytes, same, find, without, any, All}
+use Rattle.rules.specs.Base.{option, or_else, Bytes, same, find, without, any, All}
 use Rattle.rules.specs.Std.{saturating_add}
 use Rattle.rules.specs.Time.{Params}
 use Rattle.rules.specs.Data.{Memory, Replay, Silence}

@@ -1,4 +1,5 @@
 -- The invariant, what a call keeps, and how two steps come together.
+use Rattle.std.specs.Prelude.{if◌then◌else◌}
 use mathlib.Core.Path.{◌≡◌, refl, ap, subst}
 use mathlib.Core.Bool.{Bool, true, false, not}
 use mathlib.Core.Option.{some}
@@ -6,7 +7,7 @@ use mathlib.Core.List.{List}
 use Prim.Native.Nat.{ℕ, ◌+◌, ◌≤◌}
 use native.Mathlib.Omega.{arith}
 use lib.Dec.{eqb}
-use Rattle.rules.specs.Base.{if◌then◌else◌, Bytes, find, without, keep, tally, one, All}
+use Rattle.rules.specs.Base.{Bytes, find, without, keep, tally, one, All}
 use Rattle.rules.specs.Data.{Pair, Holder, LinkRec, Leg, Held, Table, Output, Step, Result}
 use Rattle.rules.specs.Links.{numbered, uses, in_use, held_by, hold, retired, retiring, addresses}
 use Rattle.rules.specs.Legs.{on_link}

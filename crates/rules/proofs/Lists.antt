@@ -1,4 +1,5 @@
 -- Branches, and sums over lists that lose, gain or change one element.
+use Rattle.std.specs.Prelude.{if◌then◌else◌}
 use mathlib.Core.Path.{◌≡◌, refl, sym, subst}
 use mathlib.Core.Bool.{Bool, true, false, ◌||◌}
 use mathlib.Core.Option.{Option, none, some}
@@ -6,7 +7,7 @@ use mathlib.Core.List.{List, [], ◌∷◌, ◌++◌}
 use Prim.Native.Nat.{ℕ, ◌+◌, ◌≤◌}
 use native.Mathlib.Omega.{arith}
 use lib.Dec.{T, eqb, eqb→eq, eqb_refl}
-use Rattle.rules.specs.Base.{if◌then◌else◌, option, find, without, any, keep, alter, tally, one, All}
+use Rattle.rules.specs.Base.{option, find, without, any, keep, alter, tally, one, All}
 use Rattle.rules.specs.Std.{insert}
 
 -- ---- going by cases: the goal must be P of the branch

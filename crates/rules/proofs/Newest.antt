@@ -1,4 +1,5 @@
 -- Of the links at an address that yield a stored msg2 the newest, that of the highest number, answers (document 02, paper 5); which answers that changes, beside those of the oldest as it was.
+use Rattle.std.specs.Prelude.{if◌then◌else◌}
 use mathlib.Core.Path.{◌≡◌, refl, sym, ap, ◌∙◌}
 use mathlib.Core.Bool.{Bool, true, false, not}
 use mathlib.Core.Option.{Option, none, some}
@@ -7,7 +8,7 @@ use Prim.Native.Nat.{ℕ, ◌<◌}
 use native.Mathlib.Omega.{arith}
 use borrow.Author.Tests.{ltb-true, ltb-false}
 use lib.Dec.{eqb, ltb}
-use Rattle.rules.specs.Base.{if◌then◌else◌, option, or_else, Bytes, find, All}
+use Rattle.rules.specs.Base.{option, or_else, Bytes, find, All}
 use Rattle.rules.specs.Std.{Ascending}
 use Rattle.rules.specs.Data.{Pair, LinkRec, Leg, Held, Table, Hello, Source, Full, Rekey, Free, Reject, Output, Step, Result}
 use Rattle.rules.specs.Links.{numbered, indexed}

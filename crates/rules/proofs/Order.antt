@@ -1,4 +1,5 @@
 -- Lists that lose, gain or change one element: their lengths, what holds of each element, and their order; then the order of every map.
+use Rattle.std.specs.Prelude.{if◌then◌else◌}
 use mathlib.Core.Path.{◌≡◌, refl, sym, ap, subst}
 use mathlib.Core.Bool.{Bool, true, false, ◌&&◌}
 use mathlib.Core.Option.{none, some}
@@ -8,7 +9,7 @@ use native.Mathlib.Omega.{arith}
 use borrow.Author.Tests.{ltb-true, ltb-false, eqb-false, lt-ltb}
 use lib.Dec.{T, eqb, ltb}
 use lib.ListN.{length}
-use Rattle.rules.specs.Base.{if◌then◌else◌, Bytes, same, find, without, alter, keep, tally, one, All}
+use Rattle.rules.specs.Base.{Bytes, same, find, without, alter, keep, tally, one, All}
 use Rattle.rules.specs.Std.{before, Ascending, insert}
 use Rattle.rules.specs.Data.{Pair, APeer, Proven, LinkRec, Answered, Leg, Held, Memory, Table, Step, Why, Transition}
 use Rattle.rules.specs.Links.{numbered, held_by, hold, with_path, path, retired, without_path, released}

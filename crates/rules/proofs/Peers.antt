@@ -1,4 +1,5 @@
 -- Rows of bytes compared, and distinct ones counted: what is within a list has no more distinct members.
+use Rattle.std.specs.Prelude.{if◌then◌else◌}
 use mathlib.Core.Path.{◌≡◌, refl, ap}
 use mathlib.Core.Bool.{Bool, true, false, not, ◌&&◌, ◌||◌}
 use mathlib.Core.List.{List, [], ◌∷◌}
@@ -6,7 +7,7 @@ use Prim.Native.Nat.{◌+◌, ◌≤◌}
 use native.Mathlib.Omega.{arith}
 use lib.Dec.{eqb}
 use lib.ListN.{length}
-use Rattle.rules.specs.Base.{if◌then◌else◌, Bytes, same, any, keep, one}
+use Rattle.rules.specs.Base.{Bytes, same, any, keep, one}
 use Rattle.rules.specs.Data.{Pair, same_pair}
 use Rattle.rules.specs.Settle.{distinct}
 use Rattle.rules.proofs.Lists.{eqb_sound, eqb_same}

@@ -1,4 +1,5 @@
 -- A record that is accepted is the only spelling of what it says, and what is spelt reads back.
+use Rattle.std.specs.Prelude.{if◌then◌else◌}
 use mathlib.Core.Path.{◌≡◌, refl, sym, ap}
 use mathlib.Core.Logic.{◌⊎◌, inl, inr}
 use mathlib.Core.Bool.{false, ◌&&◌}
@@ -9,7 +10,7 @@ use native.Mathlib.Omega.{arith}
 use borrow.Author.Tests.{eq-eqb, le-ltb}
 use lib.Dec.{eqb, lit<, lit≤}
 use lib.ListN.{length, get_elem?, length-append}
-use Rattle.rules.specs.Base.{if◌then◌else◌, option, Bytes, All}
+use Rattle.rules.specs.Base.{option, Bytes, All}
 use Rattle.rules.specs.Time.{Params, default, out_of_range}
 use Rattle.rules.specs.Data.{Pair, Table, Hello, Call}
 use Rattle.rules.specs.Field.{Reader, bind, number, fail, give, digits, pair_bytes, message_bytes, frame}

@@ -1,4 +1,5 @@
 -- The table keeps to its limits: 32 links, as many legs and holders together, 32 places, and so 32 memories.
+use Rattle.std.specs.Prelude.{if◌then◌else◌}
 use mathlib.Core.Path.{◌≡◌, refl, sym, ap, ◌∙◌, subst}
 use mathlib.Core.Bool.{Bool, true, false, not, ◌&&◌, ◌||◌}
 use mathlib.Core.Option.{Option, none, some}
@@ -8,7 +9,7 @@ use native.Mathlib.Omega.{arith}
 use borrow.Author.Tests.{leb-false}
 use lib.Dec.{leb}
 use lib.ListN.{length}
-use Rattle.rules.specs.Base.{if◌then◌else◌, option, Bytes, same, find, without, alter, any, tally, one, All}
+use Rattle.rules.specs.Base.{option, Bytes, same, find, without, alter, any, tally, one, All}
 use Rattle.rules.specs.Std.{before, Ascending}
 use Rattle.rules.specs.Data.{Pair, APeer, Proven, LinkRec, Answered, Leg, Held, Memory, Table, Step, Hello, Source, Why, Transition, Inbound}
 use Rattle.rules.specs.Links.{numbered, opened, held_by, hold, with_path, path, retired, without_path, released}

@@ -1,4 +1,5 @@
 -- Silent is looked at before Full (document 02, paper 8): which answers that changes, beside those of the order as it was.
+use Rattle.std.specs.Prelude.{if◌then◌else◌}
 use mathlib.Core.Path.{◌≡◌, refl, sym}
 use mathlib.Core.Bool.{Bool, true, false, not, ◌&&◌}
 use mathlib.Core.Logic.{◌⊎◌, inl, inr}
@@ -6,7 +7,7 @@ use mathlib.Core.Option.{Option, none, some}
 use mathlib.Core.List.{[], ◌∷◌}
 use Prim.Native.Nat.{ℕ}
 use lib.Dec.{eqb}
-use Rattle.rules.specs.Base.{if◌then◌else◌, option}
+use Rattle.rules.specs.Base.{option}
 use Rattle.rules.specs.Data.{Held, Memory, Table, Hello, Source, Refusal, Denial, Full, Gate, Silent, Reject, Free, Rekey, Output, Result}
 use Rattle.rules.specs.Gates.{memory, silencing, asks_silence, silenced_for, judged}
 use Rattle.rules.specs.Settle.{writes, ok, held_at, Stored, stored, full, denied, asked, admitted, admit, attributed, msg1}

@@ -1,4 +1,5 @@
 -- What a call makes: the table within its widths, each output too, and all that it writes within 10,240 bytes.
+use Rattle.std.specs.Prelude.{if◌then◌else◌}
 use mathlib.Core.Path.{◌≡◌}
 use mathlib.Core.Bool.{Bool, true, false, not, ◌&&◌, ◌||◌}
 use mathlib.Core.Option.{Option, none, some}
@@ -8,7 +9,7 @@ use native.Mathlib.Omega.{arith}
 use borrow.Author.Tests.{eqb-false}
 use lib.Dec.{eqb, leb, ltb}
 use lib.ListN.{length, length-append, length-map}
-use Rattle.rules.specs.Base.{if◌then◌else◌, option, is, or_else, Bytes, same, empty, find, any, keep, tally, All}
+use Rattle.rules.specs.Base.{option, is, or_else, Bytes, same, empty, find, any, keep, tally, All}
 use Rattle.rules.specs.Std.{before}
 use Rattle.rules.specs.Data.{Pair, same_pair, APeer, Proven, LinkRec, Answered, Leg, Held, Table, Hello, Call, Source, Why, Transition, Installed, Output, Step, Result}
 use Rattle.rules.specs.Data.{Opened, Resend, Rekey, Install, Reset, Retire, Free, Retry, Reject, Promote, Replace, Keep}

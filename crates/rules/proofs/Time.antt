@@ -1,4 +1,5 @@
 -- Spans and deadlines in nanoseconds: the plain forms, and that the definitions over Duration and Instant equal them.
+use Rattle.std.specs.Prelude.{if◌then◌else◌}
 use mathlib.Core.Path.{◌≡◌, refl, sym, ap, ◌∙◌}
 use mathlib.Core.Bool.{Bool, true, false, not, ◌&&◌, ◌||◌}
 use mathlib.Core.Option.{Option, none, some}
@@ -8,7 +9,7 @@ use native.Mathlib.Omega.{arith}
 use borrow.Author.Tests.{ltb-true, ltb-false, eqb-true, eqb-false, leb-true, leb-false, lt-ltb, le-ltb}
 use lib.Dec.{eqb, leb, ltb, lit<, lit≤}
 use lib.Pow.{shl_exact}
-use Rattle.rules.specs.Base.{if◌then◌else◌, option}
+use Rattle.rules.specs.Base.{option}
 use Rattle.rules.specs.Std.{Duration, as_nanos, from_nanos, duration_max, saturating_mul, shorter, shortest, last_reading, checked_add, saturating_since, u32_max, checked_shl}
 use Rattle.rules.specs.Time.{Params, backoff, ceiling, deadline, younger}
 use Rattle.rules.specs.Data.{Memory, Silence}

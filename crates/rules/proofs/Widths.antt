@@ -1,4 +1,5 @@
 -- Every number and every row of bytes of the table stays within its width: what each kind of change keeps.
+use Rattle.std.specs.Prelude.{if◌then◌else◌}
 use mathlib.Core.Path.{◌≡◌, subst}
 use mathlib.Core.Bool.{Bool, true, false, not, ◌&&◌}
 use mathlib.Core.Option.{Option, none, some}
@@ -8,7 +9,7 @@ use native.Mathlib.Omega.{arith}
 use borrow.Author.Tests.{leb-false}
 use lib.Dec.{leb, ltb}
 use lib.ListN.{length}
-use Rattle.rules.specs.Base.{if◌then◌else◌, Bytes, alter, any, All}
+use Rattle.rules.specs.Base.{Bytes, alter, any, All}
 use Rattle.rules.specs.Std.{saturating_add}
 use Rattle.rules.specs.Time.{Params}
 use Rattle.rules.specs.Data.{Pair, Dir, APeer, Proven, PathRec, LinkRec, Answered, Kind, Leg, Held, Memory, Table, Hello, Why, Transition, Inbound, Outbound}

@@ -1,8 +1,8 @@
 -- Demand 3: a lease is never lost and never doubled, each live link has one owner, and nothing in use is closed.
 -- What that says of a list of calls, each a record with the length of the buffer lent with it.
-use Rattle.std.specs.Prelude.{◌≡◌, false, List, [], ◌∷◌, ℕ, ◌+◌, ◌≤◌, eqb}
+use Rattle.std.specs.Prelude.{◌≡◌, false, List, [], ◌∷◌, ℕ, ◌+◌, ◌≤◌, eqb, if◌then◌else◌}
 use Rattle.std.proofs.Math.Option.{Option, none, some}
-use Rattle.rules.specs.Base.{if◌then◌else◌, option, Bytes, tally, one, All}
+use Rattle.rules.specs.Base.{option, Bytes, tally, one, All}
 use Rattle.rules.specs.Data.{Pair, LinkRec, Table, Call, Output, Step, Result, Opened, Resend, Rekey, Install, Reset, Retire, Free, Retry, Reject}
 use Rattle.rules.specs.Links.{numbered, in_use}
 use Rattle.rules.specs.Legs.{on_link}

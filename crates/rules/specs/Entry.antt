@@ -1,6 +1,6 @@
 -- The two entries, from bytes and the lent buffer's length.
-use Rattle.std.specs.Prelude.{[], ℕ, ltb}
-use Rattle.rules.specs.Base.{if◌then◌else◌, option, Bytes}
+use Rattle.std.specs.Prelude.{[], ℕ, ltb, if◌then◌else◌}
+use Rattle.rules.specs.Base.{option, Bytes}
 use Rattle.rules.specs.Time.{Params, out_of_range}
 use Rattle.rules.specs.Data.{Table, Result}
 use Rattle.rules.specs.Settle.{refuse, step}

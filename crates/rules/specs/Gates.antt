@@ -1,8 +1,8 @@
 -- The gates: what is remembered of a peer, the judgement of a msg1, and what changes a memory (gates.rs).
-use Rattle.std.specs.Prelude.{Bool, true, false, not, ◌&&◌, ◌||◌, ℕ, ◌-◌, eqb, leb, ltb, length}
+use Rattle.std.specs.Prelude.{Bool, true, false, not, ◌&&◌, ◌||◌, ℕ, ◌-◌, eqb, leb, ltb, length, if◌then◌else◌}
 use Rattle.std.proofs.Math.Option.{Option, none, some}
 use mathlib.Core.List.{List, [], ◌∷◌, ◌++◌, tail}
-use Rattle.rules.specs.Base.{if◌then◌else◌, option, is, or_else, Bytes, same, empty, find, without, any, keep}
+use Rattle.rules.specs.Base.{option, is, or_else, Bytes, same, empty, find, without, any, keep}
 use Rattle.rules.specs.Std.{from_nanos, saturating_add, before, insert}
 use Rattle.rules.specs.Time.{Params, deadline, backoff, younger}
 use Rattle.rules.specs.Data.{Memory, Replay, Silence, Held, Source, Refusal, Unheard, Dampened, Replayed, ReplayFull}

@@ -1,7 +1,7 @@
 -- Handshake legs: how they start, resend, wake and end (legs.rs).
-use Rattle.std.specs.Prelude.{Bool, true, false, not, ◌||◌, List, [], ◌∷◌, map, ℕ, min, eqb, leb, ltb, length}
+use Rattle.std.specs.Prelude.{Bool, true, false, not, ◌||◌, List, [], ◌∷◌, map, ℕ, min, eqb, leb, ltb, length, if◌then◌else◌}
 use Rattle.std.proofs.Math.Option.{Option, none, some}
-use Rattle.rules.specs.Base.{if◌then◌else◌, option, is, Bytes, same, keep}
+use Rattle.rules.specs.Base.{option, is, Bytes, same, keep}
 use Rattle.rules.specs.Std.{from_nanos, duration_max, saturating_add}
 use Rattle.rules.specs.Time.{Params, backoff, deadline}
 use Rattle.rules.specs.Data.{Answered, Kind, Leg, Hello, Output, Resend}

@@ -1,6 +1,6 @@
 -- Link records, what uses a connection, and what is closed (links.rs).
-use Rattle.std.specs.Prelude.{Bool, true, false, not, ◌&&◌, ◌||◌, List, [], ◌∷◌, ◌++◌, map, ℕ, eqb}
-use Rattle.rules.specs.Base.{if◌then◌else◌, option, empty, find, without, alter, any, keep}
+use Rattle.std.specs.Prelude.{Bool, true, false, not, ◌&&◌, ◌||◌, List, [], ◌∷◌, ◌++◌, map, ℕ, eqb, if◌then◌else◌}
+use Rattle.rules.specs.Base.{option, empty, find, without, alter, any, keep}
 use Rattle.rules.specs.Data.{Pair, same_pair, Dir, Holder, ALeg, APeer, Proven, Live, Acked, Probing, PathRec, LinkRec}
 
 abbrev pub numbered : ℕ → LinkRec → Bool

@@ -1,8 +1,8 @@
 -- A record arrives: the bytes of new and of a call, as they are read and as they are spelt.
-use Rattle.std.specs.Prelude.{◌&&◌, List, [], ◌∷◌, ◌++◌, ℕ, ◌+◌, eqb, length}
+use Rattle.std.specs.Prelude.{◌&&◌, List, [], ◌∷◌, ◌++◌, ℕ, ◌+◌, eqb, length, if◌then◌else◌}
 use Rattle.std.proofs.Math.Option.{Option, none, some}
 use Rattle.std.proofs.Math.ListN.{get_elem?}
-use Rattle.rules.specs.Base.{if◌then◌else◌, option, Bytes}
+use Rattle.rules.specs.Base.{option, Bytes}
 use Rattle.rules.specs.Time.{Params, default}
 use Rattle.rules.specs.Data.{Hello, Call}
 use Rattle.rules.specs.Field.{Reader, give, fail, bind, number, code, clock, peer, link, lease, epoch, digest, flag, whys, states, pair, message, digits, flag_bytes, pair_bytes, message_bytes, why_code, state_code, frame}

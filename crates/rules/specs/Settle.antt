@@ -1,7 +1,7 @@
 -- The sixteen calls (table.rs). Each takes the table to a step: the table after it, and the outputs in the order in which the Rust pushes them.
-use Rattle.std.specs.Prelude.{Bool, true, false, not, ◌&&◌, ◌||◌, List, [], ◌∷◌, ◌++◌, map, ℕ, ◌+◌, ◌-◌, ◌^◌, eqb, leb, length}
+use Rattle.std.specs.Prelude.{Bool, true, false, not, ◌&&◌, ◌||◌, List, [], ◌∷◌, ◌++◌, map, ℕ, ◌+◌, ◌-◌, ◌^◌, eqb, leb, length, if◌then◌else◌}
 use Rattle.std.proofs.Math.Option.{Option, none, some}
-use Rattle.rules.specs.Base.{if◌then◌else◌, option, is, or_else, Bytes, same, empty, find, without, alter, any}
+use Rattle.rules.specs.Base.{option, is, or_else, Bytes, same, empty, find, without, alter, any}
 use Rattle.rules.specs.Std.{before, insert}
 use Rattle.rules.specs.Data.{Pair, same_pair, Dir, Inbound, Outbound, APeer, Proven, LinkRec, Answered, Leg, Held, Memory, Table, Hello, Call, Source, Why, Denial, Full, Gate, Fresh, FromCarry, Transition, Installed, Output, Step, Result}
 use Rattle.rules.specs.Data.{Opened, Rekey, Install, Reset, Retire, Free, Retry, Reject, Silent, Promote, Replace, Move, Keep, Roam}

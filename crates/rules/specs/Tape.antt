@@ -1,6 +1,6 @@
 -- The program settle-tape: records in, outputs and Done out.
-use Rattle.std.specs.Prelude.{List, [], ◌∷◌, ◌++◌, ℕ, zero, suc, ◌+◌, leb, length, take, drop}
-use Rattle.rules.specs.Base.{if◌then◌else◌, option, Bytes}
+use Rattle.std.specs.Prelude.{List, [], ◌∷◌, ◌++◌, ℕ, zero, suc, ◌+◌, leb, length, take, drop, if◌then◌else◌}
+use Rattle.rules.specs.Base.{option, Bytes}
 use Rattle.rules.specs.Data.{Table}
 use Rattle.rules.specs.Field.{number}
 use Rattle.rules.specs.Output.{outputs, done_record}

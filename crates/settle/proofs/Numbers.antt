@@ -1,4 +1,5 @@
 -- The numbers that the program answers: new 0, 1 or 3, call 0 or one of 2 to 7 (rules proofs/Numbers). Each occurs (rules proofs/Rows).
+use Rattle.std.specs.Prelude.{if◌then◌else◌}
 use mathlib.Core.Path.{◌≡◌, refl, sym, ap, subst}
 use mathlib.Core.Bool.{Bool, true, false}
 use mathlib.Core.Logic.{inl, inr}
@@ -6,7 +7,7 @@ use mathlib.Core.List.{[], ◌∷◌}
 use Prim.Native.Nat.{ℕ}
 use borrow.Author.Tests.{eqb-true}
 use lib.Dec.{eqb}
-use Rattle.rules.specs.Base.{if◌then◌else◌, Bytes}
+use Rattle.rules.specs.Base.{Bytes}
 use Rattle.rules.specs.Data.{Result}
 use Rattle.rules.specs.Entry.{Start, Made, Refused}
 use Rattle.rules.proofs.Numbers.{OneOf, refusals, Numbered, NewNumbered, call_number, new_number, one_more}

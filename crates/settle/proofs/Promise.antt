@@ -1,11 +1,12 @@
 -- The program keeps its promise: by the contracts of new and call each chain is a run of the definitions, of which demand 3 is proved.
+use Rattle.std.specs.Prelude.{if◌then◌else◌}
 use mathlib.Core.Path.{◌≡◌, refl, sym, ap, ◌∙◌, subst}
 use mathlib.Core.List.{List, [], ◌∷◌, ◌++◌}
 use Prim.Native.Nat.{ℕ, ◌+◌}
 use lib.Dec.{eqb}
 use lib.Seq.{take_at}
 use lib.ListN.{length, take, drop}
-use Rattle.rules.specs.Base.{if◌then◌else◌, Bytes}
+use Rattle.rules.specs.Base.{Bytes}
 use Rattle.rules.specs.Data.{LinkRec, Table, Output}
 use Rattle.rules.specs.Output.{outputs}
 use Rattle.rules.specs.Settle.{◌▸◌}

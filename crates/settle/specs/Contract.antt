@@ -1,6 +1,6 @@
 -- What new and call promise, whatever the record, the buffer and the clock.
-use Rattle.std.specs.Prelude.{◌≡◌, ◌++◌, ℕ, eqb, length, drop}
-use Rattle.rules.specs.Base.{if◌then◌else◌, Bytes}
+use Rattle.std.specs.Prelude.{◌≡◌, ◌++◌, ℕ, eqb, length, drop, if◌then◌else◌}
+use Rattle.rules.specs.Base.{Bytes}
 use Rattle.rules.specs.Data.{Result}
 use Rattle.rules.specs.Output.{outputs}
 use Rattle.rules.specs.Entry.{Made, Refused}

@@ -1,11 +1,11 @@
 -- From what table and input give to the entries' contracts.
-use Rattle.std.specs.Prelude.{◌≡◌, refl, Bool, true, false, not, [], ◌∷◌, ◌++◌, ℕ, suc, ◌+◌, ◌≤◌, ◌<◌, length, drop, get_or}
+use Rattle.std.specs.Prelude.{◌≡◌, refl, Bool, true, false, not, [], ◌∷◌, ◌++◌, ℕ, suc, ◌+◌, ◌≤◌, ◌<◌, length, drop, get_or, if◌then◌else◌}
 use Rattle.std.proofs.Math.Path.{sym}
 use Rattle.std.proofs.Common.{ap, ◌∙◌, subst, zero-add, arith, lt-ltb, le-ltb, ne_eqb, Fits}
 use Rattle.std.proofs.Math.Option.{Option, none, some}
 use Rattle.std.proofs.lemmas.Bool.{not-true, not-false}
 use Rattle.std.specs.Int.{w8}
-use Rattle.rules.specs.Base.{if◌then◌else◌, option, Bytes, All}
+use Rattle.rules.specs.Base.{option, Bytes, All}
 use Rattle.rules.specs.Data.{Call}
 use Rattle.rules.specs.Time.{out_of_range}
 use Rattle.rules.specs.Settle.{refuse, step}

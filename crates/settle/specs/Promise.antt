@@ -1,6 +1,6 @@
 -- Demand 3 of the program: a lease is never lost and never doubled, whatever the order of calls. Each part is said of what the calls themselves answered, wrote and left.
-use Rattle.std.specs.Prelude.{◌≡◌, List, [], ◌∷◌, ◌++◌, map, ℕ, ◌+◌, eqb, length, take}
-use Rattle.rules.specs.Base.{if◌then◌else◌, Bytes, tally, All}
+use Rattle.std.specs.Prelude.{◌≡◌, List, [], ◌∷◌, ◌++◌, map, ℕ, ◌+◌, eqb, length, take, if◌then◌else◌}
+use Rattle.rules.specs.Base.{Bytes, tally, All}
 use Rattle.rules.specs.Data.{Output}
 use Rattle.rules.specs.Output.{outputs}
 use Rattle.rules.specs.Claim.{Fed, play, lease_in, is_lease, holding, given, Unused, Owned}

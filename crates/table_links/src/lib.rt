@@ -1,8 +1,8 @@
 // The link records of the table.
 #![tactic(auto)]
 
-ghost use Rattle.std.specs.Prelude.{◌≡◌, false, [], ◌∷◌, ◌<◌, length};
-ghost use Rattle.rules.specs.Base.{if◌then◌else◌, any};
+ghost use Rattle.std.specs.Prelude.{◌≡◌, false, [], ◌∷◌, ◌<◌, length, if◌then◌else◌};
+ghost use Rattle.rules.specs.Base.{any};
 ghost use Rattle.rules.specs.Data.{same_pair, APeer};
 ghost use Rattle.rules.specs.Links as rule;
 ghost use Rattle.rules.specs.Settle as settle;

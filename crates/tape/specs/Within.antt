@@ -1,7 +1,7 @@
 -- A session in so much room: it stops before a record for which there may be too little.
-use Rattle.std.specs.Prelude.{◌≡◌, refl, Bool, true, false, List, [], ◌∷◌, ◌++◌, ℕ, ◌-◌, ◌*◌, ◌≤◌, ◌<◌, ltb, length}
+use Rattle.std.specs.Prelude.{◌≡◌, refl, Bool, true, false, List, [], ◌∷◌, ◌++◌, ℕ, ◌-◌, ◌*◌, ◌≤◌, ◌<◌, ltb, length, if◌then◌else◌}
 use Rattle.std.proofs.Common.{ap, ◌∙◌, arith, lt-ltb, le-ltb, length-append}
-use Rattle.rules.specs.Base.{if◌then◌else◌, Bytes, All}
+use Rattle.rules.specs.Base.{Bytes, All}
 use Rattle.rules.specs.Output.{outputs, done_record}
 use Rattle.rules.specs.Entry.{Start, Made, Refused, new, call}
 use Rattle.rules.specs.Tape.{run}

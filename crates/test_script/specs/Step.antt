@@ -1,9 +1,9 @@
 -- The steps of a script: a word, of which the first byte counts, and up to five decimal numbers, each behind one space; what follows them is passed over.
-use Rattle.std.specs.Prelude.{◌≡◌, ℕ, zero, suc, ◌+◌, ◌*◌, ◌%◌, ◌^◌, ◌<◌, ◌≤◌, Bool, true, false, ◌&&◌, ltb, [], ◌∷◌, length, drop, ◌==◌, nat_le, nat_lt, slice_index, refl}
+use Rattle.std.specs.Prelude.{◌≡◌, ℕ, zero, suc, ◌+◌, ◌*◌, ◌%◌, ◌^◌, ◌<◌, ◌≤◌, Bool, true, false, ◌&&◌, ltb, [], ◌∷◌, length, drop, ◌==◌, nat_le, nat_lt, slice_index, refl, if◌then◌else◌}
 use Rattle.std.proofs.Common.{sym, ap, ◌∙◌, add-one, arith, lt-ltb, le-ltb}
 use Rattle.std.proofs.Math.Nat.{add-mod, mod-add-mod}
 use Rattle.std.proofs.Math.Seq.{drop-cons, drop-length}
-use Rattle.rules.specs.Base.{if◌then◌else◌, Bytes}
+use Rattle.rules.specs.Base.{Bytes}
 
 -- ---- numbers
 

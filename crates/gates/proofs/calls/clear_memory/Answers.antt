@@ -1,6 +1,6 @@
+use Rattle.std.specs.Prelude.{if◌then◌else◌}
 use mathlib.Core.Path.{ap, ◌∙◌}
 use lib.ListN.{set}
-use Rattle.rules.specs.Base.{if◌then◌else◌}
 use Rattle.rules.specs.Data.{Memory}
 use Rattle.rules.specs.Gates.{remembers, clear}
 use Rattle.lib_laws.specs.Shift.{erase}

@@ -6,4 +6,3 @@ returns-in-0 c = rw c.in-0.is
 
 pub returns-in-1 : goal.returns-in-1
 returns-in-1 c = rw c.in-1.is
-
