@@ -121,6 +121,7 @@ module _ (clock : ℕ) (d : Leg) where
   -- a leg before the first that is past has another link
   reaped : {i : ℕ} {s : List Leg} → Ascending earlier_leg s → First (past_deadline clock) i s
       → (find (on_link (get_or s i d).link) s ≡ some (get_or s i d)) × (keep (past_deadline clock) s ≡ get_or s i d ∷ keep (past_deadline clock) (without (on_link (get_or s i d).link) s))
+  reaped {s = []} a f = elim f [ ]
   reaped {s = g ∷ s} a (here e) = (rw (eqb_same g.link), rw (e, eqb_same g.link))
   reaped {s = h ∷ s} a (there {i = i} e f) =
       let k : Leg = get_or s i d in
