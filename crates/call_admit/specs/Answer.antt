@@ -17,7 +17,7 @@ use Rattle.legs.specs.View.{no_leg}
 use Rattle.legs.specs.At.{answer_of}
 use Rattle.output_record.specs.Write.{puts_one}
 use Rattle.table_layout.specs.View.{view_table, Told, nth_leg}
-use Rattle.table_layout.specs.Told.{told_is}
+use Rattle.table_layout.proofs.Told.{told_is}
 use Rattle.call_contract.specs.Did.{Space, Did, space_head}
 
 -- ---- the leg that came last

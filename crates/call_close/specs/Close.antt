@@ -18,7 +18,7 @@ use Rattle.legs.specs.View.{no_leg, leg_count}
 use Rattle.output_record.specs.Write.{Puts, puts_none, puts_one, puts_more}
 use Rattle.output_closes.specs.Lists.{pairs_append, pairs_small, pairs_count, close_header, close_written}
 use Rattle.table_layout.specs.View.{legs_in, view_table, FitTable, Told, nth_leg}
-use Rattle.table_layout.specs.Told.{leg_to, told_then}
+use Rattle.table_layout.proofs.Told.{leg_to, told_then}
 use Rattle.call_contract.specs.Did.{Space, Did, space_place, space_head, space_first, space_rest, wrote_length}
 use Rattle.node_addr.specs.Layout.{pair_width}
 use Rattle.call_contract.specs.Loop.{Writing, writing_start, writing_room, writing_one, writing_end}

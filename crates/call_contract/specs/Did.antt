@@ -9,7 +9,7 @@ use Rattle.lib_laws.specs.Splice.{Wrote, length_splice}
 use Rattle.output_record.specs.Size.{size_of, length_output}
 use Rattle.output_record.specs.Write.{Puts, puts_none, puts_one, puts_more, outputs_append}
 use Rattle.table_layout.specs.View.{view_table, FitTable, Told}
-use Rattle.table_layout.specs.Told.{told_same}
+use Rattle.table_layout.proofs.Told.{told_same}
 
 -- ---- room in the buffer o from a place on for the outputs s
 

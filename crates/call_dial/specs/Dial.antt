@@ -11,7 +11,7 @@ use Rattle.rules.specs.Settle.{joined, ok, refuse, entering, dial, step}
 use Rattle.lib_laws.specs.Splice.{Wrote}
 use Rattle.output_record.specs.Write.{puts_one}
 use Rattle.table_layout.specs.View.{Told}
-use Rattle.table_layout.specs.Told.{told_is}
+use Rattle.table_layout.proofs.Told.{told_is}
 use Rattle.call_contract.specs.Did.{Space, Did, space_head}
 use Rattle.call_limits.specs.Enter.{Enters, entering_passed, entering_refused, numbering_passed, numbering_refused}
 

@@ -14,7 +14,7 @@ use Rattle.lib_laws.specs.Splice.{Wrote}
 use Rattle.output_record.specs.Write.{puts_one}
 use Rattle.held.specs.View.{no_held}
 use Rattle.table_layout.specs.View.{view_table, FitTable, Told, nth_held}
-use Rattle.table_layout.specs.Told.{told_then}
+use Rattle.table_layout.proofs.Told.{told_then}
 use Rattle.call_contract.specs.Did.{Space, Did, space_is, did_is, space_head, puts_end, did_still}
 
 -- room for a Reset of a peer's address

@@ -10,7 +10,7 @@ use Rattle.rules.specs.Settle.{with_links, writes, still, ok, refuse, unsent, cr
 use Rattle.input_call.specs.Read.{kind_fields, no_kind}
 use Rattle.output_record.specs.Write.{Puts, puts_none}
 use Rattle.table_layout.specs.View.{view_table, FitTable, Told}
-use Rattle.table_layout.specs.Told.{told_same}
+use Rattle.table_layout.proofs.Told.{told_same}
 use Rattle.call_contract.specs.Did.{Ruled, ruled_ok}
 use Rattle.call_path.specs.Path.{Numbered}
 

@@ -9,7 +9,7 @@ use Rattle.rules.specs.Output.{output_record}
 use Rattle.lib_laws.specs.Splice.{Wrote}
 use Rattle.output_record.specs.Write.{Puts, puts_one}
 use Rattle.table_layout.specs.View.{view_table, FitTable}
-use Rattle.table_layout.specs.Told.{told_same}
+use Rattle.table_layout.proofs.Told.{told_same}
 use Rattle.call_contract.specs.Did.{Space, Did, space_head, space_is, did_is, puts_end}
 
 -- the Reject that names nobody

@@ -10,7 +10,7 @@ use Rattle.rules.specs.Settle.{with_links, with_held, writes, drop_leg, named, d
 use Rattle.lib_laws.specs.Splice.{Wrote}
 use Rattle.output_record.specs.Write.{puts_one}
 use Rattle.table_layout.specs.View.{view_table, Told}
-use Rattle.table_layout.specs.Told.{told_then}
+use Rattle.table_layout.proofs.Told.{told_then}
 use Rattle.call_contract.specs.Did.{Space, Did, space_is, did_is, space_head, space_tail, puts_cons}
 use Rattle.call_sent.specs.Install.{install_fits, reset_fits, seated}
 

@@ -19,7 +19,7 @@ use Rattle.legs.specs.At.{there, absent, no_answer, named_peer}
 use Rattle.held.specs.View.{no_held}
 use Rattle.output_record.specs.Write.{puts_one}
 use Rattle.table_layout.specs.View.{view_table, FitTable, nth_leg, nth_held}
-use Rattle.table_layout.specs.Told.{told_same}
+use Rattle.table_layout.proofs.Told.{told_same}
 use Rattle.call_contract.specs.Did.{Space, Did, space_is, did_is, did_still, space_left, space_right, did_then}
 use Rattle.call_contract.specs.Sound.{Sound, owners, links_most, held_room}
 use Rattle.call_sent.specs.Install.{reset_fits}

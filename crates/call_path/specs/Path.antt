@@ -14,7 +14,7 @@ use Rattle.node_addr.specs.View.{view_pair, FitPair}
 use Rattle.output_field.specs.Part.{pair_length}
 use Rattle.output_record.specs.Write.{puts_one}
 use Rattle.table_layout.specs.View.{view_table, FitTable, Told}
-use Rattle.table_layout.specs.Told.{told_same}
+use Rattle.table_layout.proofs.Told.{told_same}
 use Rattle.call_contract.specs.Did.{Space, Did, space_is, did_is, space_head}
 
 -- the step of a result on the table t, its outputs apart: the number n, the table t' after it. A refusal leaves t as it is

@@ -25,7 +25,7 @@ use Rattle.legs.specs.At.{Stands, resend_due, past_deadline}
 use Rattle.legs.specs.View.{no_leg}
 use Rattle.output_record.specs.Write.{Puts}
 use Rattle.table_layout.specs.View.{view_table, nth_leg}
-use Rattle.table_layout.specs.Told.{told_same}
+use Rattle.table_layout.proofs.Told.{told_same}
 use Rattle.call_contract.specs.Did.{Space, Did, space_left, space_right, did_then}
 use Rattle.call_contract.specs.Sound.{sound_ends}
 use Rattle.call_contract.specs.Loop.{Writing, writing_start, writing_room, writing_one, writing_end, Doing, doing_space, doing_turn, doing_end}

@@ -17,7 +17,7 @@ use Rattle.lib_laws.specs.Splice.{Wrote}
 use Rattle.output_record.specs.Write.{puts_one}
 use Rattle.legs.specs.View.{no_leg}
 use Rattle.table_layout.specs.View.{view_table, Told, nth_leg}
-use Rattle.table_layout.specs.Told.{told_is, told_then}
+use Rattle.table_layout.proofs.Told.{told_is, told_then}
 use Rattle.call_contract.specs.Did.{Space, Did, space_head, space_tail, puts_cons}
 
 -- ---- the leg g ends

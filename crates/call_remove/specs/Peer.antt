@@ -25,7 +25,7 @@ use Rattle.gates.specs.Order.{Room}
 use Rattle.held.specs.View.{no_held, setup_of}
 use Rattle.output_record.specs.Write.{Puts, puts_one, puts_more}
 use Rattle.table_layout.specs.View.{view_table, FitTable, Told, nth_held}
-use Rattle.table_layout.specs.Told.{told_same, told_is, told_then, fit_params}
+use Rattle.table_layout.proofs.Told.{told_same, told_is, told_then, fit_params}
 use Rattle.call_contract.specs.Did.{Space, Did, space_is, did_is, space_head, space_tail, space_first, space_rest, puts_cons, puts_end}
 use Rattle.call_contract.specs.Sound.{Ready, gates_ordered, gates_within, held_memory}
 

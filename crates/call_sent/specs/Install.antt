@@ -13,7 +13,7 @@ use Rattle.lib_laws.specs.Scan.{scan}
 use Rattle.lib_laws.specs.Place.{alter_at, alter_nowhere}
 use Rattle.legs.specs.View.{no_leg}
 use Rattle.table_layout.specs.View.{view_table, FitTable, Told, nth_leg}
-use Rattle.table_layout.specs.Told.{told_same, told_is, told_then}
+use Rattle.table_layout.proofs.Told.{told_same, told_is, told_then}
 use Rattle.call_contract.specs.Did.{Space, space_head}
 
 -- ---- room for each output

@@ -29,7 +29,7 @@ use Rattle.held.specs.View.{view_rec, FitRec, no_held}
 use Rattle.gates.specs.Order.{Room}
 use Rattle.output_record.specs.Write.{puts_one}
 use Rattle.table_layout.specs.View.{view_table, FitTable, Told, nth_leg, nth_link}
-use Rattle.table_layout.specs.Told.{told_is, told_then}
+use Rattle.table_layout.proofs.Told.{told_is, told_then}
 use Rattle.call_contract.specs.Did.{Space, Did, space_is, did_is, space_tail, puts_cons, puts_end, did_still}
 use Rattle.call_contract.specs.Sound.{Sound, leg_memory, held_room}
 use Rattle.call_sent.specs.Install.{install_fits, reset_fits, seated}

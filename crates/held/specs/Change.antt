@@ -18,7 +18,8 @@ use Rattle.lib_laws.specs.Cell.{flag_shows, flag_code}
 use Rattle.lib_laws.specs.Fields.{cuts, cuts_set, sum}
 use Rattle.lib_laws.specs.Store.{changed_is}
 use Rattle.node_addr.specs.View.{view_pair, FitPair}
-use Rattle.node_addr.specs.Place.{pair_cell, pair_cell_length, pair_cell_fit, pair_cell_shows}
+use Rattle.node_addr.specs.Place.{pair_cell}
+use Rattle.node_addr.proofs.Cells.{pair_cell_length, pair_cell_fit, pair_cell_shows}
 use Rattle.node_addr.specs.declared.Pair as pair
 use Rattle.node_addr.specs.Layout.{pair_width}
 use Rattle.held.specs.Layout.{held_ws, at_current, at_has_last, at_heard, at_held_epoch, at_held_link, held_width, at_last}

@@ -9,7 +9,7 @@ use Rattle.lib_laws.specs.Cell.{flag_same, option_num_same, option_bytes_same}
 use Rattle.lib_laws.specs.Fields.{sum}
 use Rattle.lib_laws.specs.Store.{store_zeros, same_view}
 use Rattle.lib_laws.specs.Same.{cell_bytes, num_cells, cells_same, with_bytes}
-use Rattle.node_addr.specs.Place.{pair_cell_same}
+use Rattle.node_addr.proofs.Cells.{pair_cell_same}
 use Rattle.node_addr.specs.Layout.{pair_width}
 use Rattle.held.specs.Layout.{at_current, held_ws, at_held_count, held_cap, held_len, held_width, at_held_epoch, at_installed, at_held_link, at_last}
 use Rattle.held.specs.View.{held_of, FitHeldCell, view_held, FitHeld, held_count, fit_zeros}

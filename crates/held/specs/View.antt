@@ -8,7 +8,8 @@ use Rattle.lib_laws.specs.Cell.{num, flag_of, option_num, option_bytes, Code, Op
 use Rattle.lib_laws.specs.Fields.{cuts}
 use Rattle.lib_laws.specs.Store.{Store, entries}
 use Rattle.node_addr.specs.View.{view_pair, FitPair}
-use Rattle.node_addr.specs.Place.{pair_of, PairCell, pair_zeros}
+use Rattle.node_addr.specs.Place.{pair_of, PairCell}
+use Rattle.node_addr.proofs.Cells.{pair_zeros}
 use Rattle.held.specs.Layout.{held_ws, at_held_count, held_cap, held_width}
 use Rattle.held.specs.declared.record.Held as held
 

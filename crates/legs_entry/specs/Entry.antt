@@ -14,7 +14,8 @@ use Rattle.lib_laws.specs.Chunk.{chunks, joined}
 use Rattle.lib_laws.specs.Fields.{cuts, cuts_at, cuts_joined, sum}
 use Rattle.node_addr.specs.View.{FitMessage, view_message}
 use Rattle.node_addr.specs.Alike.{part_of}
-use Rattle.node_addr.specs.Place.{message_of, MessageCell, message_cell, message_parts}
+use Rattle.node_addr.specs.Place.{message_of, MessageCell, message_cell}
+use Rattle.node_addr.proofs.Cells.{message_parts}
 use Rattle.node_addr.specs.declared.Message as message
 use Rattle.node_addr.specs.Layout.{message_width}
 use Rattle.legs_entry.specs.Layout.{leg_ws, at_answer, at_answer_sent, at_deadline, at_digest, at_epoch, at_has_next, at_has_peer, at_lease, at_msg1, at_msg2, at_next_resend, at_peer, at_replaces, at_sent, leg_cap, leg_width}

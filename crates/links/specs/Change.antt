@@ -20,7 +20,8 @@ use Rattle.lib_laws.specs.Chunk.{joined}
 use Rattle.lib_laws.specs.Fields.{cuts, cuts_set, cuts_joined, sum}
 use Rattle.lib_laws.specs.Store.{changed_is, entries_count}
 use Rattle.node_addr.specs.View.{view_pair, FitPair}
-use Rattle.node_addr.specs.Place.{pair_cell, pair_cell_length, pair_cell_fit, pair_cell_shows}
+use Rattle.node_addr.specs.Place.{pair_cell}
+use Rattle.node_addr.proofs.Cells.{pair_cell_length, pair_cell_fit, pair_cell_shows}
 use Rattle.node_addr.specs.declared.Pair as pair
 use Rattle.links_entry.specs.View.{view_paths, FitPaths, dir_of, dir_code, link_from, link_of, FitFields, FitLink, view_links, FitLinks, link_count, no_link, with_paths, with_released, marked_at, cut_at}
 use Rattle.links_entry.specs.Here.{span, span_is, paths_show}

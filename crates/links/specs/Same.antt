@@ -9,7 +9,7 @@ use Rattle.lib_laws.specs.Cell.{byte_of, flag_of, byte_same, flag_same, num_same
 use Rattle.lib_laws.specs.Fields.{cuts, sum}
 use Rattle.lib_laws.specs.Store.{same_view}
 use Rattle.lib_laws.specs.Same.{cell_size, cell_bytes, cells_same, with_bytes}
-use Rattle.node_addr.specs.Place.{pair_cell_same}
+use Rattle.node_addr.proofs.Cells.{pair_cell_same}
 use Rattle.links_entry.specs.View.{state_of, path_of, FitPath, view_paths, FitPaths, dir_of, holder_of, link_of, FitHolder, FitLink, view_links, FitLinks}
 use Rattle.node_addr.specs.Layout.{pair_width}
 use Rattle.links_entry.specs.Layout.{at_path_state, link_width, path_width, paths_len, at_setup, link_ws, at_released, at_holder, at_dir, at_paths}

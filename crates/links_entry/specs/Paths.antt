@@ -16,7 +16,8 @@ use Rattle.lib_laws.specs.Part.{part_before, part_same}
 use Rattle.lib_laws.specs.Cell.{Code}
 use Rattle.lib_laws.specs.Store.{changed_is, entries_count}
 use Rattle.node_addr.specs.View.{view_pair, FitPair}
-use Rattle.node_addr.specs.Place.{pair_cell, pair_cell_length, pair_cell_fit, pair_cell_shows}
+use Rattle.node_addr.specs.Place.{pair_cell}
+use Rattle.node_addr.proofs.Cells.{pair_cell_length, pair_cell_fit, pair_cell_shows}
 use Rattle.node_addr.specs.declared.Pair as pair
 use Rattle.node_addr.specs.Layout.{pair_width}
 use Rattle.links_entry.specs.Layout.{at_path_state, path_width}

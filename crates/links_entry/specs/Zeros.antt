@@ -4,7 +4,7 @@ use Rattle.std.proofs.Common.{lit<}
 use Rattle.std.proofs.lemmas.List.{get_or-replicate}
 use Rattle.rules.specs.Base.{Bytes}
 use Rattle.lib_laws.specs.Store.{store_zeros}
-use Rattle.node_addr.specs.Place.{pair_zeros}
+use Rattle.node_addr.proofs.Cells.{pair_zeros}
 use Rattle.links_entry.specs.Layout.{at_link_count, link_cap, link_width, links_len, path_cap, path_width, paths_len}
 use Rattle.links_entry.specs.View.{FitPath, FitPaths, FitLink, FitLinks, view_links, link_count}
 

@@ -9,7 +9,7 @@ use Rattle.rules.specs.Output.{outputs}
 use Rattle.rules.specs.Bounds.{IsByte}
 use Rattle.rules.specs.Entry as rule
 use Rattle.table_layout.specs.View.{view_table}
-use Rattle.table_layout.specs.Same.{same_table}
+use Rattle.table_layout.proofs.Same.{same_table}
 use Rattle.settle.specs.Contract.{Called, ruled, ruled_bytes}
 
 pub record Same (t₁ t₂ o₁ o₂ : Bytes) (n₁ n₂ k₁ k₂ : ℕ) : Type 0 where

@@ -1,4 +1,3 @@
 pub mod Layout
 pub mod Contract
 pub mod Promise
-pub mod Meets

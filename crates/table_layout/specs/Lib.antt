@@ -1,4 +1,2 @@
 pub mod Layout
 pub mod View
-pub mod Told
-pub mod Same

@@ -8,7 +8,7 @@ use Rattle.lib_laws.specs.Splice.{splice, Wrote}
 use Rattle.legs.specs.View.{FitLegs, view_legs}
 use Rattle.legs.specs.Same.{fit_new, shows_none}
 use Rattle.table_layout.specs.View.{legs_in, view_table, FitTable, Told}
-use Rattle.table_layout.specs.Told.{told_same, told_is, told_legs}
+use Rattle.table_layout.proofs.Told.{told_same, told_is, told_legs}
 use Rattle.legs_entry.specs.Layout.{legs_len}
 use Rattle.table_layout.specs.Layout.{at_legs}
 

@@ -15,7 +15,8 @@ use Rattle.settle.proofs.Promise.{promise}
 use Rattle.rules.specs.Entry.{Start, Made, Refused, new}
 use Rattle.rules.specs.Entry as rule
 use Rattle.tape.specs.Session.{State, opened, next}
-use Rattle.tape.specs.Step.{state_of, Steps, stays}
+use Rattle.tape.specs.Step.{state_of, Steps}
+use Rattle.tape.proofs.Step.{stays}
 use Rattle.tape.specs.Row.{Seen, Row, step, Same, Demand}
 use Rattle.tape.specs.declared.session.Phase.{Phase}
 use Rattle.tape.specs.declared.session.Phase.TheVariants as phase

@@ -10,7 +10,7 @@ use Rattle.rules.specs.Bounds.{IsByte}
 use Rattle.tape.specs.Layout.{out_len}
 use Rattle.tape.specs.Session.{Before, after}
 use Rattle.tape.specs.Cut.{records_of}
-use Rattle.tape.specs.Within.{within_whole, run_whole, run_enough}
+use Rattle.tape.proofs.Within.{within_whole, run_whole, run_enough}
 use Rattle.tape.specs.Step.{state_of}
 use Rattle.tape.specs.Run.{ran_in, Runs}
 use Rattle.tape.specs.declared.session.Phase.{Phase}

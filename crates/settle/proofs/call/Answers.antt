@@ -2,7 +2,7 @@
 use mathlib.Core.Path.{sym, ◌∙◌}
 use Rattle.call_contract.specs.Did.{puts_length}
 use Rattle.input_frame.specs.Frame.{opens}
-use Rattle.settle.specs.Meets.{all_bytes, call_short, call_unread, call_asked, call_done}
+use Rattle.settle.proofs.Meets.{all_bytes, call_short, call_unread, call_asked, call_done}
 use Rattle.settle.proofs.call.Goals as goal
 
 pub returns-then-out-lt-BUFFER_LEN : goal.returns-then-out-lt-BUFFER_LEN

@@ -1,5 +1,5 @@
 -- `settle::new` meets its contract.
-use Rattle.settle.specs.Meets.{all_bytes, in_range, begun_made, begun_refused}
+use Rattle.settle.proofs.Meets.{all_bytes, in_range, begun_made, begun_refused}
 use Rattle.settle.proofs.new.Goals as goal
 
 pub returns-then-r-ne0 : goal.returns-then-r-ne0

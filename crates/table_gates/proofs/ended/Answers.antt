@@ -1,7 +1,7 @@
 -- `table_gates::ended` meets its contract.
 use lib.Dec.{lit≤}
 use Rattle.table_layout.specs.View.{view_table}
-use Rattle.table_layout.specs.Told.{part_end, told_gates, gates_room}
+use Rattle.table_layout.proofs.Told.{part_end, told_gates, gates_room}
 use Rattle.table_gates.proofs.ended.Goals as goal
 
 pub slice_bounds-ended-end : goal.slice_bounds-ended-end

@@ -1,7 +1,7 @@
 -- `table_gates::heard` meets its contract.
 use lib.Dec.{lit≤}
 use Rattle.table_layout.specs.View.{view_table}
-use Rattle.table_layout.specs.Told.{part_end, told_gates}
+use Rattle.table_layout.proofs.Told.{part_end, told_gates}
 use Rattle.table_gates.proofs.heard.Goals as goal
 
 pub slice_bounds-heard-end : goal.slice_bounds-heard-end

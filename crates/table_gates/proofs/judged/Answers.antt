@@ -1,7 +1,7 @@
 -- `table_gates::judged` meets its contract.
 use lib.Dec.{lit≤}
 use Rattle.table_layout.specs.View.{view_table}
-use Rattle.table_layout.specs.Told.{part_end}
+use Rattle.table_layout.proofs.Told.{part_end}
 use Rattle.table_gates.proofs.judged.Goals as goal
 
 pub slice_bounds-judged-end : goal.slice_bounds-judged-end

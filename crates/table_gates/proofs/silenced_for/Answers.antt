@@ -1,7 +1,7 @@
 -- `table_gates::silenced_for` meets its contract.
 use lib.Dec.{lit≤}
 use Rattle.table_layout.specs.View.{view_table}
-use Rattle.table_layout.specs.Told.{part_end}
+use Rattle.table_layout.proofs.Told.{part_end}
 use Rattle.table_gates.proofs.silenced_for.Goals as goal
 
 pub slice_bounds-silenced_for-end : goal.slice_bounds-silenced_for-end

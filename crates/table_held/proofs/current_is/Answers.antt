@@ -1,7 +1,7 @@
 -- `table_held::current_is` meets its contract.
 use lib.Dec.{lit≤}
 use Rattle.table_layout.specs.View.{view_table}
-use Rattle.table_layout.specs.Told.{part_end, held_in_lem}
+use Rattle.table_layout.proofs.Told.{part_end, held_in_lem}
 use Rattle.table_held.proofs.current_is.Goals as goal
 
 pub slice_bounds-current_is-end : goal.slice_bounds-current_is-end

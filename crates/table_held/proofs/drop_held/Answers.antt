@@ -1,7 +1,7 @@
 -- `table_held::drop_held` meets its contract.
 use lib.Dec.{lit≤}
 use Rattle.table_layout.specs.View.{view_table}
-use Rattle.table_layout.specs.Told.{part_end, told_held}
+use Rattle.table_layout.proofs.Told.{part_end, told_held}
 use Rattle.table_held.proofs.drop_held.Goals as goal
 
 pub slice_bounds-drop_held-end : goal.slice_bounds-drop_held-end

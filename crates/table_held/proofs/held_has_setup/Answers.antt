@@ -1,7 +1,7 @@
 -- `table_held::held_has_setup` meets its contract.
 use lib.Dec.{lit≤}
 use Rattle.table_layout.specs.View.{view_table}
-use Rattle.table_layout.specs.Told.{part_end, held_in_lem}
+use Rattle.table_layout.proofs.Told.{part_end, held_in_lem}
 use Rattle.table_held.proofs.held_has_setup.Goals as goal
 
 pub slice_bounds-has_setup_at-end : goal.slice_bounds-has_setup_at-end

@@ -1,7 +1,7 @@
 -- `table_held::restart_at` meets its contract.
 use lib.Dec.{lit≤}
 use Rattle.table_layout.specs.View.{view_table}
-use Rattle.table_layout.specs.Told.{part_end, held_in_lem, told_held}
+use Rattle.table_layout.proofs.Told.{part_end, held_in_lem, told_held}
 use Rattle.table_held.proofs.restart_at.Goals as goal
 
 pub slice_bounds-set_epoch-end : goal.slice_bounds-set_epoch-end

@@ -1,7 +1,7 @@
 -- `table_legs::drop_leg` meets its contract.
 use lib.Dec.{lit≤}
 use Rattle.table_layout.specs.View.{view_table}
-use Rattle.table_layout.specs.Told.{part_end, told_legs}
+use Rattle.table_layout.proofs.Told.{part_end, told_legs}
 use Rattle.table_legs.proofs.drop_leg.Goals as goal
 
 pub slice_bounds-drop_leg-end : goal.slice_bounds-drop_leg-end

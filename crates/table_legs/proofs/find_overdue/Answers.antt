@@ -1,7 +1,7 @@
 -- `table_legs::find_overdue` meets its contract.
 use lib.Dec.{lit≤}
 use Rattle.table_layout.specs.View.{view_table}
-use Rattle.table_layout.specs.Told.{part_end}
+use Rattle.table_layout.proofs.Told.{part_end}
 use Rattle.table_legs.proofs.find_overdue.Goals as goal
 
 pub slice_bounds-find_overdue-end : goal.slice_bounds-find_overdue-end

@@ -1,7 +1,7 @@
 -- `table_legs::find_resend` meets its contract.
 use lib.Dec.{lit≤}
 use Rattle.table_layout.specs.View.{view_table}
-use Rattle.table_layout.specs.Told.{part_end, leg_to}
+use Rattle.table_layout.proofs.Told.{part_end, leg_to}
 use Rattle.table_legs.proofs.find_resend.Goals as goal
 
 pub slice_bounds-find_resend-end : goal.slice_bounds-find_resend-end

@@ -1,7 +1,7 @@
 -- `table_legs::leg_link` meets its contract.
 use lib.Dec.{lit≤}
 use Rattle.table_layout.specs.View.{view_table}
-use Rattle.table_layout.specs.Told.{part_end, leg_in}
+use Rattle.table_layout.proofs.Told.{part_end, leg_in}
 use Rattle.table_legs.proofs.leg_link.Goals as goal
 
 pub slice_bounds-link_at-end : goal.slice_bounds-link_at-end

@@ -1,7 +1,7 @@
 -- `table_legs::leg_msg1` meets its contract.
 use lib.Dec.{lit≤}
 use Rattle.table_layout.specs.View.{view_table}
-use Rattle.table_layout.specs.Told.{part_end, leg_in, leg_small, entry_fits, cell_fits, place_fits, stands_whole}
+use Rattle.table_layout.proofs.Told.{part_end, leg_in, leg_small, entry_fits, cell_fits, place_fits, stands_whole}
 use Rattle.table_legs.proofs.leg_msg1.Goals as goal
 
 pub slice_bounds-msg1_len_at-end : goal.slice_bounds-msg1_len_at-end

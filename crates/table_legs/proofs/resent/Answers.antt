@@ -1,7 +1,7 @@
 -- `table_legs::resent` meets its contract.
 use lib.Dec.{lit≤}
 use Rattle.table_layout.specs.View.{view_table}
-use Rattle.table_layout.specs.Told.{part_end, told_legs, leg_in}
+use Rattle.table_layout.proofs.Told.{part_end, told_legs, leg_in}
 use Rattle.table_legs.proofs.resent.Goals as goal
 
 pub slice_bounds-resent_at-end : goal.slice_bounds-resent_at-end

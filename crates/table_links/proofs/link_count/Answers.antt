@@ -1,7 +1,7 @@
 -- `table_links::link_count` meets its contract.
 use lib.Dec.{lit≤}
 use Rattle.table_layout.specs.View.{view_table}
-use Rattle.table_layout.specs.Told.{part_end}
+use Rattle.table_layout.proofs.Told.{part_end}
 use Rattle.table_links.proofs.link_count.Goals as goal
 
 pub slice_bounds-link_count-end : goal.slice_bounds-link_count-end

@@ -1,7 +1,7 @@
 -- `table_links::link_outbound` meets its contract.
 use lib.Dec.{lit≤}
 use Rattle.table_layout.specs.View.{view_table}
-use Rattle.table_layout.specs.Told.{part_end, link_in}
+use Rattle.table_layout.proofs.Told.{part_end, link_in}
 use Rattle.table_links.proofs.link_outbound.Goals as goal
 
 pub slice_bounds-outbound_at-end : goal.slice_bounds-outbound_at-end

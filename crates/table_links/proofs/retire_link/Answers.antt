@@ -1,7 +1,7 @@
 -- `table_links::retire_link` meets its contract.
 use lib.Dec.{lit≤}
 use Rattle.table_layout.specs.View.{view_table}
-use Rattle.table_layout.specs.Told.{part_end, told_links}
+use Rattle.table_layout.proofs.Told.{part_end, told_links}
 use Rattle.table_links.proofs.retire_link.Goals as goal
 
 pub slice_bounds-retire-end : goal.slice_bounds-retire-end

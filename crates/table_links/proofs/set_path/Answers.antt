@@ -3,7 +3,7 @@ use lib.Dec.{lit≤}
 use Rattle.links.specs.View.{crowding}
 use Rattle.rules.specs.Settle as settle
 use Rattle.table_layout.specs.View.{view_table}
-use Rattle.table_layout.specs.Told.{part_end, told_links}
+use Rattle.table_layout.proofs.Told.{part_end, told_links}
 use Rattle.table_links.proofs.set_path.Goals as goal
 
 pub slice_bounds-set_path-end : goal.slice_bounds-set_path-end

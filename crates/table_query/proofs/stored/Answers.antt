@@ -2,7 +2,7 @@
 use lib.Dec.{lit≤}
 use Rattle.rules.specs.Settle as settle
 use Rattle.table_layout.specs.View.{view_table}
-use Rattle.table_layout.specs.Told.{part_end}
+use Rattle.table_layout.proofs.Told.{part_end}
 use Rattle.table_query.specs.Ask.{yields_whole}
 use Rattle.table_query.proofs.stored.Goals as goal
 

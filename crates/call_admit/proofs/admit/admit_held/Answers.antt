@@ -2,7 +2,7 @@
 use mathlib.Core.Path.{refl, sym, ◌∙◌}
 use Rattle.gates_types.specs.View.{source_of}
 use Rattle.input_call.specs.Hello.{hello_of}
-use Rattle.table_layout.specs.Told.{told_same}
+use Rattle.table_layout.proofs.Told.{told_same}
 use Rattle.call_contract.specs.Did.{space_result, puts_length, ruled_ok, ruled_is}
 use Rattle.call_admit.specs.Ruling.{admits, denies}
 use Rattle.call_admit.specs.Admit.{held_rejected, held_displaced}

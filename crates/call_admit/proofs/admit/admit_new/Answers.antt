@@ -1,7 +1,7 @@
 -- `call_admit::admit::admit_new` meets its contract.
 use mathlib.Core.Path.{refl, sym, ◌∙◌}
 use Rattle.input_call.specs.Hello.{hello_of}
-use Rattle.table_layout.specs.Told.{told_same}
+use Rattle.table_layout.proofs.Told.{told_same}
 use Rattle.call_contract.specs.Did.{space_result, puts_length, ruled_ok, ruled_is}
 use Rattle.call_admit.specs.Ruling.{admits, denies}
 use Rattle.call_admit.specs.Admit.{new_rejected, new_enters}

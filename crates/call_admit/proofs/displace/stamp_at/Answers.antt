@@ -1,6 +1,6 @@
 -- `call_admit::displace::stamp_at` meets its contract.
 use mathlib.Core.Path.{refl, sym, ◌∙◌}
-use Rattle.table_layout.specs.Told.{told_same}
+use Rattle.table_layout.proofs.Told.{told_same}
 use Rattle.call_contract.specs.Sound.{gates_ordered, held_memory}
 use Rattle.call_admit.specs.Displace.{stamp_heard, stamp_unheard}
 use Rattle.call_admit.proofs.displace.stamp_at.Goals as goal

@@ -1,5 +1,5 @@
 use native.Mathlib.Omega.{arith}
-use Rattle.table_layout.specs.Told.{next_place}
+use Rattle.table_layout.proofs.Told.{next_place}
 use Rattle.call_contract.specs.Loop.{writing_length}
 use Rattle.call_close.specs.Close.{freeing_start, freeing_within, freeing_room, freeing_turn, freeing_end}
 use Rattle.call_close.proofs.close.free_all.Goals as goal

@@ -1,7 +1,7 @@
 -- `call_msg1::msg1::held_msg1` meets its contract.
 use mathlib.Core.Path.{refl, sym, ◌∙◌}
 use Rattle.input_call.specs.Hello.{hello_of}
-use Rattle.table_layout.specs.Told.{told_same}
+use Rattle.table_layout.proofs.Told.{told_same}
 use Rattle.call_contract.specs.Did.{space_result, puts_length, ruled_ok, ruled_is}
 use Rattle.call_msg1.specs.Msg1.{msg1_restart, msg1_rekey}
 use Rattle.call_msg1.proofs.msg1.held_msg1.Goals as goal

@@ -1,6 +1,6 @@
 use native.Mathlib.Omega.{arith}
 use Rattle.node_addr.specs.View.{finds_at, finds_none}
-use Rattle.table_layout.specs.Told.{next_place}
+use Rattle.table_layout.proofs.Told.{next_place}
 use Rattle.call_contract.specs.Loop.{writing_length}
 use Rattle.call_poll.specs.Poll.{resending_start, resend_later, resend_within, resend_room, resend_turn, resend_end}
 use Rattle.call_poll.proofs.poll.resend_due.Goals as goal

@@ -1,6 +1,6 @@
 -- `call_sent::sent::promote` meets its contract.
 use mathlib.Core.Path.{sym, ◌∙◌}
-use Rattle.table_layout.specs.Told.{fit_params}
+use Rattle.table_layout.proofs.Told.{fit_params}
 use Rattle.call_contract.specs.Did.{puts_length}
 use Rattle.call_contract.specs.Sound.{gates_ordered}
 use Rattle.call_sent.specs.Sent.{promote_install, promote_reset, promote_did, promote_memory, promote_room}

@@ -1,5 +1,5 @@
 use Rattle.held.specs.Walk.{slot_insert}
-use Rattle.held.specs.Entry.{fit_bytes, held_bytes_lem}
+use Rattle.held.proofs.Written.{fit_bytes, held_bytes_lem}
 use Rattle.held.specs.View.{held_of, view_rec}
 use Rattle.lib_laws.specs.Store.{inserted_is}
 use borrow.Author.Rules.{rules}

@@ -1,5 +1,5 @@
 -- `node_addr::place::eq_pair_at` meets its contract.
-use Rattle.node_addr.specs.Place.{pair_other, pair_longer, pair_beside}
+use Rattle.node_addr.proofs.Cells.{pair_other, pair_longer, pair_beside}
 use borrow.Author.Rules.{rules}
 use Rattle.node_addr.proofs.place.eq_pair_at.Goals as goal
 

@@ -1,5 +1,5 @@
 -- `node_addr::place::eq_wire_pair` meets its contract.
-use Rattle.node_addr.specs.Place.{pair_spelt}
+use Rattle.node_addr.proofs.Cells.{pair_spelt}
 use borrow.Author.Rules.{rules}
 use Rattle.node_addr.proofs.place.eq_wire_pair.Goals as goal
 

@@ -1,5 +1,5 @@
 -- `node_addr::place::load_pair` meets its contract.
-use Rattle.node_addr.specs.Place.{pair_loaded}
+use Rattle.node_addr.proofs.Cells.{pair_loaded}
 use Rattle.node_addr.proofs.place.load_pair.Goals as goal
 
 pub returns : goal.returns

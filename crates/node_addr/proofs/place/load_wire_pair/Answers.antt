@@ -1,5 +1,5 @@
 -- `node_addr::place::load_wire_pair` meets its contract.
-use Rattle.node_addr.specs.Place.{spelt_loaded}
+use Rattle.node_addr.proofs.Cells.{spelt_loaded}
 use Rattle.node_addr.proofs.place.load_wire_pair.Goals as goal
 
 pub returns : goal.returns

@@ -1,6 +1,6 @@
 -- `node_addr::place::put_message` meets its contract.
 use Rattle.lib_laws.specs.Splice.{wrote_then}
-use Rattle.node_addr.specs.Place.{message_written}
+use Rattle.node_addr.proofs.Cells.{message_written}
 use Rattle.node_addr.proofs.place.put_message.Goals as goal
 
 pub returns : goal.returns

@@ -1,6 +1,6 @@
 -- `node_addr::place::put_pair` meets its contract.
 use Rattle.lib_laws.specs.Splice.{wrote_then}
-use Rattle.node_addr.specs.Place.{pair_written}
+use Rattle.node_addr.proofs.Cells.{pair_written}
 use Rattle.node_addr.proofs.place.put_pair.Goals as goal
 
 pub returns : goal.returns

@@ -1,7 +1,7 @@
 -- `table_layout::head::me_of` meets its contract.
 use lib.Dec.{lit≤}
 use Rattle.table_layout.specs.View.{view_table}
-use Rattle.table_layout.specs.Told.{part_end}
+use Rattle.table_layout.proofs.Told.{part_end}
 use Rattle.table_layout.proofs.head.me_of.Goals as goal
 
 pub slice_bounds-load_me-end : goal.slice_bounds-load_me-end

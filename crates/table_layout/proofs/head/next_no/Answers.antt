@@ -1,7 +1,7 @@
 -- `table_layout::head::next_no` meets its contract.
 use lib.Dec.{lit≤}
 use Rattle.table_layout.specs.View.{view_table}
-use Rattle.table_layout.specs.Told.{part_end}
+use Rattle.table_layout.proofs.Told.{part_end}
 use Rattle.table_layout.proofs.head.next_no.Goals as goal
 
 pub slice_bounds-get_next-end : goal.slice_bounds-get_next-end

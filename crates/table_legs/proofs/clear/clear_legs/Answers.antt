@@ -1,7 +1,7 @@
 -- `table_legs::clear::clear_legs` meets its contract.
 use mathlib.Core.Path.{sym, ◌∙◌}
 use lib.Dec.{lit≤}
-use Rattle.table_layout.specs.Told.{part_end}
+use Rattle.table_layout.proofs.Told.{part_end}
 use Rattle.table_legs.specs.Clear.{legs_room, legs_cleared, none_cleared}
 use Rattle.table_legs.proofs.clear.clear_legs.Goals as goal
 

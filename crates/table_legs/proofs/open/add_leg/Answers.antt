@@ -1,7 +1,7 @@
 -- `table_legs::open::add_leg` meets its contract.
 use lib.Dec.{lit≤}
 use Rattle.table_layout.specs.View.{view_table}
-use Rattle.table_layout.specs.Told.{part_end, told_legs, leg_room}
+use Rattle.table_layout.proofs.Told.{part_end, told_legs, leg_room}
 use Rattle.table_legs.proofs.open.add_leg.Goals as goal
 
 pub slice_bounds-push_leg-end : goal.slice_bounds-push_leg-end

@@ -1,6 +1,6 @@
 -- `table_legs::open::open_leg` meets its contract.
 use mathlib.Core.Path.{sym, ◌∙◌}
-use Rattle.table_layout.specs.Told.{next_fits, still_room, told_joined}
+use Rattle.table_layout.proofs.Told.{next_fits, still_room, told_joined}
 use Rattle.table_legs.proofs.open.open_leg.Goals as goal
 
 pub add_leg-requires : goal.add_leg-requires

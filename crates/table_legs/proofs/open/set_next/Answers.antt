@@ -1,7 +1,7 @@
 -- `table_legs::open::set_next` meets its contract.
 use lib.Dec.{lit≤}
 use Rattle.table_layout.specs.View.{view_table}
-use Rattle.table_layout.specs.Told.{part_end, told_next}
+use Rattle.table_layout.proofs.Told.{part_end, told_next}
 use Rattle.table_legs.proofs.open.set_next.Goals as goal
 
 pub slice_bounds-put_next-end : goal.slice_bounds-put_next-end

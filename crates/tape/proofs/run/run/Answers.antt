@@ -1,6 +1,6 @@
 use mathlib.Core.Path.{◌∙◌}
 use native.Mathlib.Omega.{arith}
-use Rattle.tape.specs.Run.{going_start, next_end, next_some, rest_size, step_size, going_step, going_full, going_end}
+use Rattle.tape.proofs.Turns.{going_start, next_end, next_some, rest_size, step_size, going_step, going_full, going_end}
 use Rattle.tape.proofs.run.run.Goals as goal
 
 pub loop-at-init : goal.loop-at-init

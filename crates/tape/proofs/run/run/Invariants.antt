@@ -1,7 +1,7 @@
 -- `tape::run::run` meets its contract.
 use Prim.Native.Nat.{◌-◌}
 use lib.ListN.{length}
-use Rattle.tape.specs.Run.{Going}
+use Rattle.tape.proofs.Turns.{Going}
 use Rattle.tape.proofs.run.run.Given as goal
 
 abbrev pub invariant-loop-at : goal.invariant-loop-at

@@ -1,6 +1,6 @@
 -- `tape::session::first` meets its contract.
-use Rattle.settle.specs.Meets.{all_bytes}
-use Rattle.tape.specs.Step.{step_made, step_refused}
+use Rattle.settle.proofs.Meets.{all_bytes}
+use Rattle.tape.proofs.Step.{step_made, step_refused}
 use Rattle.tape.proofs.session.first.Goals as goal
 
 pub returns-then-number-eq0 : goal.returns-then-number-eq0

@@ -1,7 +1,7 @@
 -- `tape::session::other` meets its contract.
 use native.Mathlib.Omega.{arith}
-use Rattle.settle.specs.Meets.{all_bytes}
-use Rattle.tape.specs.Step.{call_room, call_length, step_called}
+use Rattle.settle.proofs.Meets.{all_bytes}
+use Rattle.tape.proofs.Step.{call_room, call_length, step_called}
 use Rattle.tape.proofs.session.other.Goals as goal
 
 pub slice_bounds-call-end : goal.slice_bounds-call-end

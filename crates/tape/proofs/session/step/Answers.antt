@@ -1,5 +1,5 @@
 -- `tape::session::step` meets its contract.
-use Rattle.tape.specs.Step.{steps_by, step_over}
+use Rattle.tape.proofs.Step.{steps_by, step_over}
 use Rattle.tape.proofs.session.step.Goals as goal
 
 pub other-requires : goal.other-requires
