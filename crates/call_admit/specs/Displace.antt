@@ -1,8 +1,7 @@
 -- A heard holder stamped; a holder that goes and leaves room for an answer.
-use Rattle.std.specs.Prelude.{◌≡◌, Bool, true, false, List, ℕ, ◌+◌, ◌<◌, length, get_or}
+use Rattle.std.specs.Prelude.{◌≡◌, Bool, true, false, List, ℕ, ◌+◌, ◌<◌, length, get_or, Some}
 use Rattle.std.proofs.Common.{sym, ◌∙◌}
 use Rattle.std.proofs.Math.Path.{ap}
-use Rattle.std.proofs.Math.Option.{some}
 use native.Mathlib.Omega.{arith}
 use Rattle.rules.specs.Base.{Bytes}
 use Rattle.rules.specs.Data.{Held, Table, Why}
@@ -19,7 +18,7 @@ use Rattle.call_contract.specs.Sound.{Sound, Ready, ready_told, sound_stamp, sou
 
 -- ---- the stamp
 module _ (x : Table) (p : Bytes) (h : Held) (now : ℕ) {b : Bool} (v : b ≡ h.heard) where
-  pub stamp_heard : {t : Bytes} → held_at p x ≡ some h → b ≡ true → Told t (with_gates (store (stamped now (memory p x.gates)) x.gates) x) → Told t (stamp now h x)
+  pub stamp_heard : {t : Bytes} → held_at p x ≡ Some h → b ≡ true → Told t (with_gates (store (stamped now (memory p x.gates)) x.gates) x) → Told t (stamp now h x)
   unfolding stamp
   stamp_heard {t} e q a =
       let s : p ≡ h.peer = same_sound p h.peer (find_test (named p) x.held h e) in
@@ -30,7 +29,7 @@ module _ (x : Table) (p : Bytes) (h : Held) (now : ℕ) {b : Bool} (v : b ≡ h.
   stamp_unheard q a = rw (sym v ∙ q) a
 
 -- ---- the i-th holder, which is the peer's, is passed over
-module _ (x : Table) (s : Sound x) (now : ℕ) (w : Word now) (p : Bytes) (i : ℕ) (l : i < length x.held) (e : held_at p x ≡ some (nth_held x i)) where
+module _ (x : Table) (s : Sound x) (now : ℕ) (w : Word now) (p : Bytes) (i : ℕ) (l : i < length x.held) (e : held_at p x ≡ Some (nth_held x i)) where
   abbrev h : Held
   h = nth_held x i
 
@@ -48,7 +47,7 @@ module _ (x : Table) (s : Sound x) (now : ℕ) (w : Word now) (p : Bytes) (i : �
     pub stamped_within : i < length (view_table t).held
     stamped_within = rw held_same l
 
-    pub stamped_at : held_at p (view_table t) ≡ some (nth_held (view_table t) i)
+    pub stamped_at : held_at p (view_table t) ≡ Some (nth_held (view_table t) i)
     stamped_at = rw held_same e
 
     pub stamped_removed : {why k : Why} → why ≡ k → removed now p why (nth_held (view_table t) i) (view_table t) ≡ removed now p k h y

@@ -2,15 +2,15 @@
 ghost use Rattle.std.specs.Prelude.{◌≡◌, ◌+◌, ◌<◌, ◌^◌, length};
 ghost use Rattle.rules.specs.Legs.{answer_leg};
 ghost use Rattle.rules.specs.Settle as rule;
-ghost use Rattle.legs.specs.View.{FitLeg, view_leg};
+ghost use Rattle.legs.specs.View.{view_leg};
 ghost use Rattle.input_call.specs.Hello.{hello_of, FitHello};
 ghost use Rattle.table_layout.specs.View.{view_table, FitTable};
 ghost use Rattle.call_contract.specs.Did.{Space, Did};
 
 use crate::put::put_msg2;
 use input_call::hello::Hello;
-use input_field::message_of;
-use legs::leg::{Leg, answer_leg};
+use input_cursor::message_of;
+use legs::leg::{Answer, Leg, answer_leg};
 use links::record::Dir;
 use node_addr::LinkNo;
 use node_addr::place::load_wire_pair;
@@ -22,31 +22,19 @@ use table_legs::open::open_leg;
 fn next_leg(t: &[u8], s: &[u8], h: Hello, replaces: bool, clock: u64) -> Leg
     requires fit_table { FitTable t.now }
     requires fit_hello { FitHello s.now h }
-    ensures fit_leg { FitLeg result }
-    ensures result_value { view_leg result ≡ answer_leg (view_table t.now).params clock (view_table t.now).next (hello_of s.now h) replaces }
+    ensures { view_leg result ≡ answer_leg (view_table t.now).params clock (view_table t.now).next (hello_of s.now h) replaces }
 {
     let c = params_of(t);
-    let n = next_no(t);
-    let peer = h.peer;
-    let m1 = h.message;
-    let m2 = h.msg2;
-    let digest = h.digest;
-    let epoch = h.epoch;
-    let lease = h.lease;
-    let msg1 = message_of(s, m1);
-    let msg2 = message_of(s, m2);
-    answer_leg(
-        c,
-        clock,
-        LinkNo(n),
-        peer,
-        msg1,
-        digest,
-        epoch,
-        msg2,
-        lease,
+    let n = LinkNo(next_no(t));
+    let msg1 = message_of(s, h.message);
+    let answer = Answer {
+        sent: false,
         replaces,
-    )
+        epoch: h.epoch,
+        digest: h.digest,
+        msg2: message_of(s, h.msg2),
+    };
+    answer_leg(c, clock, n, h.peer, msg1, h.lease, answer)
 }
 
 // The msg2 that is written stands in the new leg, the last.

@@ -1,6 +1,5 @@
 // A held peer whose msg1 is admitted: its holder goes, and the msg1 is answered.
 ghost use Rattle.std.specs.Prelude.{◌≡◌, true, ◌+◌, ◌<◌, ◌^◌, length};
-ghost use Rattle.std.proofs.Math.Option.{some};
 ghost use Rattle.rules.specs.Settle as rule;
 ghost use Rattle.rules.specs.Settle.{◌▸◌};
 ghost use Rattle.gates_types.specs.View.{source_of};
@@ -23,7 +22,7 @@ use table_held::held_heard;
 pub fn stamp_at(t: &mut [u8], i: usize, peer: NodeAddr, clock: u64)
     requires ready { Ready t.old }
     requires i_in_bounds { i < length (view_table t.old).held }
-    requires t_value { rule.held_at peer.0 (view_table t.old) ≡ some (nth_held (view_table t.old) i) }
+    requires t_value { rule.held_at peer.0 (view_table t.old) ≡ Some (nth_held (view_table t.old) i) }
     ensures { Told t.new (rule.stamp clock (nth_held (view_table t.old) i) (view_table t.old)) }
 {
     if held_heard(t, i) {
@@ -36,11 +35,8 @@ pub fn displaces(source: Source) -> Why
     ensures { why_of result ≡ rule.displaces (source_of source) }
 {
     match source {
-        Source::NotHeld => Why::Replacement,
         Source::Restart => Why::Restart,
-        Source::Replacement => Why::Replacement,
-        Source::OwnMsg2 => Why::Replacement,
-        Source::RekeyMsg2 => Why::Replacement,
+        _ => Why::Replacement,
     }
 }
 
@@ -58,7 +54,7 @@ pub fn displace(
     requires ready { Ready t.old }
     requires fit_hello { FitHello s.now h }
     requires i_in_bounds { i < length (view_table t.old).held }
-    requires t_value { rule.held_at h.peer.0 (view_table t.old) ≡ some (nth_held (view_table t.old) i) }
+    requires t_value { rule.held_at h.peer.0 (view_table t.old) ≡ Some (nth_held (view_table t.old) i) }
     requires t_bound { (view_table t.old).next + 1 < 2 ^ 64 }
     requires space { Space out.old at (rule.removed clock h.peer.0 (rule.displaces (source_of source)) (nth_held (view_table t.old) i) (rule.stamp clock (nth_held (view_table t.old) i) (view_table t.old))
         ▸ rule.answer clock (hello_of s.now h) true).outs }

@@ -1,6 +1,5 @@
 // What is written for a msg1.
 ghost use Rattle.std.specs.Prelude.{true, [], ◌∷◌, ◌+◌, ◌≤◌, ◌<◌, length};
-ghost use Rattle.std.proofs.Math.Option.{some};
 ghost use Rattle.rules.specs.Data.{Output, Free, Reject};
 ghost use Rattle.rules.specs.Output.{output_record};
 ghost use Rattle.lib_laws.specs.Splice.{Wrote};
@@ -24,9 +23,8 @@ pub fn put_msg2(t: &[u8], out: &mut [u8], at: usize, i: usize, stored: bool) -> 
         (output_record (Output.Answer (nth_leg (view_table t.now) i).link stored (answer_of (nth_leg (view_table t.now) i)).msg2))
         out.new result }
 {
-    let n = leg_link(t, i);
     let m = leg_msg2(t, i);
-    put_answer(out, at, n, stored, t, m.at, m.len)
+    put_answer(out, at, leg_link(t, i), stored, m, 0, m.len())
 }
 
 // A msg1 is rejected, and its lease freed.
@@ -38,9 +36,9 @@ pub fn reject(
     why: Denial,
     lease: u32,
 ) -> usize
-    requires { Space out.old at (Reject (some (peer.0, source_of source)) (denial_of why) ∷ Free lease ∷ []) }
-    ensures { Puts out.old at (Reject (some (peer.0, source_of source)) (denial_of why) ∷ Free lease ∷ []) out.new result }
+    requires { Space out.old at (Reject (Some (peer.0, source_of source)) (denial_of why) ∷ Free lease ∷ []) }
+    ensures { Puts out.old at (Reject (Some (peer.0, source_of source)) (denial_of why) ∷ Free lease ∷ []) out.new result }
 {
-    let a = put_reject(out, at, true, peer, source, why);
+    let a = put_reject(out, at, Some((peer, source)), why);
     put_free(out, a, lease)
 }

@@ -12,8 +12,9 @@ use Rattle.rules.specs.Output.{pairs_bytes, output_record}
 use Rattle.rules.specs.Links.{retired, retiring}
 use Rattle.rules.specs.Settle.{with_links, with_legs, retireds, retirings, close_legs}
 use Rattle.lib_laws.specs.Splice.{splice, splice_none, splice_splice, Wrote}
-use Rattle.links.specs.declared.record.Closes.{Closes}
-use Rattle.links.specs.View.{view_closes, FitCloses}
+use Rattle.arrayvec.specs.ArrayVec.{ArrayVec, array_vec_len}
+use Rattle.node_addr.specs.declared.Pair as pair
+use Rattle.links.specs.View.{view_closes}
 use Rattle.legs.specs.View.{no_leg, leg_count}
 use Rattle.output_record.specs.Write.{Puts, puts_none, puts_one, puts_more}
 use Rattle.output_closes.specs.Lists.{pairs_append, pairs_small, pairs_count, close_header, close_written}
@@ -84,19 +85,19 @@ listed_none xs from = record { count = refl; end = sym (add-zero from); size = r
 
 module _ {xs : Bytes} {from : ℕ} {ps : List Pair} {ys : Bytes} {e n : ℕ} (a : Listed xs from ps ys e n) where
   -- more behind them
-  pub listed_more : {m : ℕ} {zs : Bytes} {r : ℕ} {c : Closes} → FitCloses c → Wrote ys e m (pairs_bytes (view_closes c)) zs r → Listed xs from (ps ++ view_closes c) zs r (n + c.len)
-  listed_more {m} {zs} {r} {c} f w =
+  pub listed_more : {m : ℕ} {zs : Bytes} {r : ℕ} (c : ArrayVec pair.Pair) → Wrote ys e m (pairs_bytes (view_closes c)) zs r → Listed xs from (ps ++ view_closes c) zs r (n + array_vec_len c)
+  listed_more {m} {zs} {r} c w =
       let b : Bytes = pairs_bytes ps in
       let d : Bytes = pairs_bytes (view_closes c) in
       let z : pairs_bytes (ps ++ view_closes c) ≡ b ++ d = pairs_append ps (view_closes c) in
       let l : length (pairs_bytes (ps ++ view_closes c)) ≡ length b + length d = ap length z ∙ length-append b d in
       record {
-        count = omega (arith, a.count, length-append ps (view_closes c), pairs_count f);
+        count = omega (arith, a.count, length-append ps (view_closes c), pairs_count c);
         end = omega (arith, a.end, w.end, w.size, l);
         size = wrote_length w ∙ a.size;
         is = w.is ∙ ap (λ (u : Bytes). splice u e d) a.is ∙ ap (λ (k : ℕ). splice (splice xs from b) k d) a.end
             ∙ splice_splice xs from b d (omega (arith, a.end, a.size, w.room)) ∙ ap (λ (u : Bytes). splice xs from u) (sym z);
-        most = omega (arith, l, a.most, pairs_small f);
+        most = omega (arith, l, a.most, pairs_small c);
       }
 
   -- the same, with none behind them
@@ -155,15 +156,12 @@ module _ {x : Table} {xs : Bytes} {at n : ℕ} {t ys : Bytes} {e count i : ℕ} 
     pub retiring_within : i < length (view_table t).legs
     retiring_within = rw same_legs (omega (arith, a.legs))
 
-    pub place_fits : Fits w64 (i + 1)
-    place_fits = record { fits = omega (arith, a.few) }
-
     pub count_fits : (k : ℕ) → k ≤ 5 → Fits w64 (count + k)
     count_fits k q = record { fits = omega (arith, a.most, a.few) }
 
     -- the link of leg i retires and closes c
-    module _ {l : ℕ} {t' : Bytes} {c : Closes} (p : l ≡ (nth_leg (view_table t) i).link) (u : Told t' (with_links (retired l (view_table t).links) (view_table t)))
-        (f : FitCloses c) (v : view_closes c ≡ retiring l (view_table t).links) where
+    module _ {l : ℕ} {t' : Bytes} (c : ArrayVec pair.Pair) {k : ℕ} (p : l ≡ (nth_leg (view_table t) i).link) (u : Told t' (with_links (retired l (view_table t).links) (view_table t)))
+        (v : view_closes c ≡ retiring l (view_table t).links) (j : k ≡ array_vec_len c) where
       links_next : drop i (leg_links x.legs) ≡ l ∷ drop (i + 1) (leg_links x.legs)
       links_next =
           drop-cons (leg_links x.legs) i no_leg.link (rw length-map (omega (arith, a.legs)))
@@ -176,7 +174,7 @@ module _ {x : Table} {xs : Bytes} {at n : ℕ} {t ys : Bytes} {e count i : ℕ} 
       unfolding retirings
       rest_is = rw (links_next, links_then, v)
 
-      next : {zs : Bytes} {r k : ℕ} → Listed xs (at + 5) (a.done ++ view_closes c) zs r k → k ≤ 5 * (i + 1) → Retiring x xs at n t' zs r k (i + 1)
+      next : {zs : Bytes} {r m : ℕ} → Listed xs (at + 5) (a.done ++ view_closes c) zs r m → m ≤ 5 * (i + 1) → Retiring x xs at n t' zs r m (i + 1)
       unfolding retireds
       next b q = record {
         fit = u.fit;
@@ -195,20 +193,20 @@ module _ {x : Table} {xs : Bytes} {at n : ℕ} {t ys : Bytes} {e count i : ℕ} 
         space = a.space;
       }
 
-      pub retiring_room : 0 < c.len → e + length (pairs_bytes (view_closes c)) ≤ length ys
+      pub retiring_room : 0 < k → e + length (pairs_bytes (view_closes c)) ≤ length ys
       retiring_room q =
           let r : List Pair = retirings (drop (i + 1) (leg_links x.legs)) (view_table t').links in
           let z : a.done ++ (view_closes c ++ r) ≡ closing x = ap (λ (s : List Pair). a.done ++ s) (sym rest_is) ∙ a.is in
           let m : length (a.done ++ (view_closes c ++ r)) ≡ length a.done + (length (view_closes c) + length r) = simp length-append in
           let w : length (pairs_bytes (a.done ++ (view_closes c ++ r))) ≡ length (pairs_bytes a.done) + (length (pairs_bytes (view_closes c)) + length (pairs_bytes r)) =
           simp (pairs_append, length-append) in
-          omega (arith, a.listed.end, a.listed.size, closing_room (closing x) (omega (arith, ap length z, m, pairs_count f, q)) a.space, ap (λ (s : List Pair). length (pairs_bytes s)) z, w)
+          omega (arith, a.listed.end, a.listed.size, closing_room (closing x) (omega (arith, ap length z, m, pairs_count c, j, q)) a.space, ap (λ (s : List Pair). length (pairs_bytes s)) z, w)
 
-      pub retiring_turn : {m : ℕ} {zs : Bytes} {r : ℕ} → Wrote ys e m (pairs_bytes (view_closes c)) zs r → Retiring x xs at n t' zs r (count + c.len) (i + 1)
-      retiring_turn w = next (listed_more a.listed f w) (omega (arith, a.most, f.small))
+      pub retiring_turn : k ≤ 5 → {m : ℕ} {zs : Bytes} {r : ℕ} → Wrote ys e m (pairs_bytes (view_closes c)) zs r → Retiring x xs at n t' zs r (count + k) (i + 1)
+      retiring_turn h w = next (rw (← j) at (listed_more a.listed c w)) (omega (arith, a.most))
 
-      pub retiring_skip : c.len ≤ 0 → Retiring x xs at n t' ys e count (i + 1)
-      retiring_skip q = next (listed_same a.listed (view_closes c) (drop_of_length-le (view_closes c) {i = 0} (omega (arith, pairs_count f, q)))) (omega (arith, a.most))
+      pub retiring_skip : k ≤ 0 → Retiring x xs at n t' ys e count (i + 1)
+      retiring_skip q = next (listed_same a.listed (view_closes c) (drop_of_length-le (view_closes c) {i = 0} (omega (arith, pairs_count c, j, q)))) (omega (arith, a.most))
 
   module _ (h : n ≤ i) where
     links_end : drop i (leg_links x.legs) ≡ []

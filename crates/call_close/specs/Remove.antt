@@ -1,8 +1,7 @@
 -- Every held peer removed: the first of them, and what is left then.
-use Rattle.std.specs.Prelude.{◌≡◌, true, ℕ, ◌+◌, ◌-◌, ◌≤◌, ◌<◌, drop}
+use Rattle.std.specs.Prelude.{◌≡◌, true, ℕ, ◌+◌, ◌≤◌, ◌<◌, drop, Option, Some}
 use Rattle.std.proofs.Common.{sym, ◌∙◌, arith, drop-cons, drop_of_length-le}
 use Rattle.std.proofs.Math.Path.{ap}
-use Rattle.std.proofs.Math.Option.{Option, some}
 use mathlib.Core.List.{List, ◌∷◌, map}
 use Rattle.std.proofs.Math.ListN.{length}
 use Rattle.rules.specs.Base.{Bytes, find, without, option}
@@ -33,7 +32,7 @@ module _ (clock : ℕ) (x : Table) where
     is_first : named p (nth_held x 0) ≡ true
     is_first = rw e (same_refl (nth_held x 0).peer)
 
-    pub first_held : held_at p x ≡ some (nth_held x 0)
+    pub first_held : held_at p x ≡ Some (nth_held x 0)
     first_held = ap (find (named p)) held_cons ∙ rw is_first
 
     others_held : without (named p) x.held ≡ drop 1 x.held
@@ -47,21 +46,21 @@ module _ (clock : ℕ) (x : Table) where
         ∙ ap (λ (o : Option Held). option o (still x) (λ h. removed clock p Why.Closed h x) ▸ removes clock (map (λ h. h.peer) (drop 1 x.held))) first_held
         ∙ ap (λ (s : List Held). removed clock p Why.Closed (nth_held x 0) x ▸ removes clock (map (λ h. h.peer) s)) (sym others_held)
 
--- ---- the loop: n peers are held yet
-pub record Emptying (clock : ℕ) (xs : Bytes) (at : ℕ) (whole : Step) (t ys : Bytes) (e n : ℕ) : Type 0 where
-  pub count : n ≡ length (view_table t).held
+-- ---- the loop: i of n peers are removed
+pub record Emptying (clock : ℕ) (xs : Bytes) (at : ℕ) (whole : Step) (t ys : Bytes) (e n i : ℕ) : Type 0 where
+  pub count : n ≡ i + length (view_table t).held
   pub doing : Doing xs at whole t ys e (empties clock (view_table t))
 
-module _ {clock : ℕ} {xs : Bytes} {at : ℕ} {whole : Step} {t ys : Bytes} {e n : ℕ} (a : Emptying clock xs at whole t ys e n) where
-  pub empty_end : n ≤ 0 → Did xs at t ys e whole
+module _ {clock : ℕ} {xs : Bytes} {at : ℕ} {whole : Step} {t ys : Bytes} {e n i : ℕ} (a : Emptying clock xs at whole t ys e n i) where
+  pub empty_end : n ≤ i → Did xs at t ys e whole
   empty_end q = doing_end a.doing (empties_none clock (view_table t) (omega (arith, a.count)))
 
-  module _ (q : 0 < n) where
+  module _ (q : i < n) where
     pub empty_some : 0 < length (view_table t).held
     empty_some = omega (arith, a.count)
 
     module _ {p : Bytes} (z : p ≡ (nth_held (view_table t) 0).peer) where
-      pub empty_at : held_at p (view_table t) ≡ some (nth_held (view_table t) 0)
+      pub empty_at : held_at p (view_table t) ≡ Some (nth_held (view_table t) 0)
       empty_at = first_held clock (view_table t) empty_some z
 
       rest_then : empties clock (view_table t) ≡ removed clock p Why.Closed (nth_held (view_table t) 0) (view_table t) ▸ (λ u. empties clock u)
@@ -75,7 +74,7 @@ module _ {clock : ℕ} {xs : Bytes} {at : ℕ} {whole : Step} {t ys : Bytes} {e 
         unfolding removed
         fewer = ap (λ (u : Table). length u.held + 1) d.table.shows ∙ length_less (named p) (view_table t).held (nth_held (view_table t) 0) empty_at
 
-        pub empty_turn : Word clock → Emptying clock xs at whole t' zs k (n - 1)
+        pub empty_turn : Word clock → Emptying clock xs at whole t' zs k n (i + 1)
         empty_turn w = record {
           count = omega (arith, a.count, fewer);
           doing = doing_turn a.doing (removed clock p Why.Closed (nth_held (view_table t) 0) (view_table t)) (λ u. empties clock u) rest_then

@@ -24,13 +24,9 @@ pub fn free_all(t: &[u8], out: &mut [u8], at: usize) -> usize
     requires space { Space out.old at (map (λ g. Free g.lease) (view_table t.now).legs) }
     ensures { Puts out.old at (map (λ g. Free g.lease) (view_table t.now).legs) out.new result }
 {
-    let n = leg_count(t);
     let mut e = at;
-    let mut i = 0;
-    while i < n {
-        let lease = leg_lease(t, i);
-        e = put_free(out, e, lease);
-        i += 1;
+    for i in 0..leg_count(t) {
+        e = put_free(out, e, leg_lease(t, i));
     }
     e
 }
@@ -54,21 +50,17 @@ fn retire_links(t: &mut [u8], out: &mut [u8], at: usize) -> Row
     let n = leg_count(t);
     let mut e = at + LIST_HEAD;
     let mut count = 0;
-    let mut i = 0;
-    while i < n {
+    for i in 0..n {
         let link = leg_link(t, i);
         let c = retire_link(t, link);
-        let k = c.len;
-        i += 1;
-        if 0 < k {
-            e = put_pairs(out, e, c);
-            count += k;
+        let k = c.len();
+        if k == 0 {
+            continue;
         }
+        e = put_pairs(out, e, &c);
+        count += k;
     }
-    Row {
-        count: count,
-        end: e,
-    }
+    Row { count, end: e }
 }
 
 // Retires the link of each leg; one Close lists what is to close, if anything is.
@@ -106,12 +98,11 @@ pub fn remove_all(t: &mut [u8], out: &mut [u8], at: usize, clock: u64) -> usize
     requires space { Space out.old at (settle.removes clock (map (λ h. h.peer) (view_table t.old).held) (view_table t.old)).outs }
     ensures { Did out.old at t.new out.new result (settle.removes clock (map (λ h. h.peer) (view_table t.old).held) (view_table t.old)) }
 {
-    let mut n = held_count(t);
+    let n = held_count(t);
     let mut e = at;
-    while 0 < n {
+    for _ in 0..n {
         let p = held_peer(t, 0);
         e = remove_at(t, out, e, 0, p, Why::Closed, clock);
-        n -= 1;
     }
     e
 }

@@ -5,11 +5,19 @@ use Rattle.rules.specs.Base.{Bytes}
 use Rattle.rules.specs.Data.{Output, Table, Step, Result}
 use Rattle.rules.specs.Output.{output_record, outputs}
 use Rattle.rules.specs.Settle.{still, ok, refuse, ◌▸◌}
+use Rattle.std.specs.Prelude as prelude
+use Rattle.std.specs.Prelude.{Ok, Err}
+use Rattle.refusal.specs.declared.Refusal.{Refusal}
 use Rattle.lib_laws.specs.Splice.{Wrote, length_splice}
 use Rattle.output_record.specs.Size.{size_of, length_output}
 use Rattle.output_record.specs.Write.{Puts, puts_none, puts_one, puts_more, outputs_append}
 use Rattle.table_layout.specs.View.{view_table, FitTable, Told}
 use Rattle.table_layout.proofs.Told.{told_same}
+
+-- where the outputs end of a step that began at a place: there, where it was refused
+abbrev pub end_of : ℕ → prelude.Result ℕ Refusal → ℕ
+end_of at (Ok r) = r
+end_of at (Err e) = at
 
 -- ---- room in the buffer o from a place on for the outputs s
 

@@ -1,7 +1,6 @@
 -- What holds of the table between the steps of a call, and the room that it gives.
-use Rattle.std.specs.Prelude.{◌≡◌, ℕ, ◌+◌, ◌≤◌, ◌<◌, length}
+use Rattle.std.specs.Prelude.{◌≡◌, ℕ, ◌+◌, ◌≤◌, ◌<◌, length, Some}
 use Rattle.std.proofs.Common.{sym, subst, arith}
-use Rattle.std.proofs.Math.Option.{some}
 use Rattle.rules.specs.Base.{Bytes, All}
 use Rattle.rules.specs.Std.{Ascending}
 use Rattle.rules.specs.Data.{Leg, Held, Table, Call, Why}
@@ -44,11 +43,11 @@ clock now = record { now = now; call = Call.Poll }
 
 module _ (x : Table) (s : Sound x) where
   -- a leg ends
-  pub sound_ends : (g : Leg) → leg_at g.link x ≡ some g → Sound (ends g x).table
+  pub sound_ends : (g : Leg) → leg_at g.link x ≡ Some g → Sound (ends g x).table
   sound_ends g e = record { good = (fine_ends g x e s.good).good; shaped = (shaped (clock 0)).leg_ends x g e s.good s.shaped; widths = widths_ends x s.widths g }
 
   -- a holder goes
-  pub sound_removed : (now : ℕ) (p : Bytes) (why : Why) (h : Held) → Word now → held_at p x ≡ some h → Sound (removed now p why h x).table
+  pub sound_removed : (now : ℕ) (p : Bytes) (why : Why) (h : Held) → Word now → held_at p x ≡ Some h → Sound (removed now p why h x).table
   sound_removed now p why h w e = record {
     good = (fine_removed now p why h x e s.good).good;
     shaped = (shaped (clock now)).holder_goes x p why h e s.good s.shaped;
@@ -56,7 +55,7 @@ module _ (x : Table) (s : Sound x) where
   }
 
   -- a heard holder is to be passed over
-  pub sound_stamp : (now : ℕ) (p : Bytes) (h : Held) → Word now → held_at p x ≡ some h → Sound (stamp now h x)
+  pub sound_stamp : (now : ℕ) (p : Bytes) (h : Held) → Word now → held_at p x ≡ Some h → Sound (stamp now h x)
   sound_stamp now p h w e =
       let o = ordered_stamp x s.shaped.ordered now h in
       record {
@@ -86,14 +85,14 @@ module _ {x : Table} (s : Sound x) where
   gates_within = fits_within x.params x.gates s.widths.gates
 
   -- the memory of a peer that is held, or that a leg names
-  pub held_memory : (p : Bytes) (h : Held) → held_at p x ≡ some h → Room p x.gates (length x.gates)
+  pub held_memory : (p : Bytes) (h : Held) → held_at p x ≡ Some h → Room p x.gates (length x.gates)
   held_memory p h e = record { room = λ z. room_held x p s.good s.shaped.ordered s.shaped.limits h e (none_of _ x.gates z) }
 
-  pub leg_memory : (p : Bytes) (n : ℕ) (g : Leg) → leg_at n x ≡ some g → g.peer ≡ some p → Room p x.gates (length x.gates)
+  pub leg_memory : (p : Bytes) (n : ℕ) (g : Leg) → leg_at n x ≡ Some g → g.peer ≡ Some p → Room p x.gates (length x.gates)
   leg_memory p n g e f = record { room = λ z. room_leg x p s.good s.shaped.ordered s.shaped.limits n g e f (none_of _ x.gates z) }
 
   -- a leg leaves room for a holder, and a holder for a leg
-  pub held_room : (n : ℕ) (g : Leg) → leg_at n x ≡ some g → length x.held < 32
+  pub held_room : (n : ℕ) (g : Leg) → leg_at n x ≡ Some g → length x.held < 32
   held_room n g e = omega (arith, owners, links_most, length_less (on_link n) x.legs g e)
 
   pub legs_room : length x.links < 32 → length x.legs < 32

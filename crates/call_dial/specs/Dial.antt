@@ -8,6 +8,8 @@ use Rattle.rules.specs.Output.{output_record}
 use Rattle.rules.specs.Links.{opened}
 use Rattle.rules.specs.Legs.{dial_leg}
 use Rattle.rules.specs.Settle.{joined, ok, refuse, entering, dial, step}
+use Rattle.refusal.specs.Code.{code}
+use Rattle.refusal.specs.declared.Refusal.{Refusal}
 use Rattle.lib_laws.specs.Splice.{Wrote}
 use Rattle.output_record.specs.Write.{puts_one}
 use Rattle.table_layout.specs.View.{Told}
@@ -41,11 +43,11 @@ module _ (now : ℕ) (p : Bytes) (to : Pair) (m : Bytes) (l : ℕ) (x : Table) w
     unfolding step
     dial_exhausted h = numbering_refused x e (entering p x (ok (dial now p to m l x))) h
 
-    module _ {n : ℕ} (h : b ≡ false) (a : Enters n p x) where
-      pub dial_refused : (n ≡ 0 → ⊥) → step now (Call.Dial p to m l) x ≡ refuse n x
+    module _ (h : b ≡ false) where
+      pub dial_refused : (r : Refusal) → Enters (code r) p x → step now (Call.Dial p to m l) x ≡ refuse (code r) x
       unfolding step
-      dial_refused f = numbering_passed x e (entering p x (ok (dial now p to m l x))) h ∙ entering_refused a (ok (dial now p to m l x)) f
+      dial_refused r a = numbering_passed x e (entering p x (ok (dial now p to m l x))) h ∙ entering_refused r a (ok (dial now p to m l x))
 
-      pub dial_passed : n ≡ 0 → step now (Call.Dial p to m l) x ≡ ok (dial now p to m l x)
+      pub dial_passed : Enters 0 p x → step now (Call.Dial p to m l) x ≡ ok (dial now p to m l x)
       unfolding step
-      dial_passed f = numbering_passed x e (entering p x (ok (dial now p to m l x))) h ∙ entering_passed a (ok (dial now p to m l x)) f
+      dial_passed a = numbering_passed x e (entering p x (ok (dial now p to m l x))) h ∙ entering_passed a (ok (dial now p to m l x))

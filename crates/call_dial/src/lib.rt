@@ -4,17 +4,19 @@
 ghost use Rattle.std.specs.Prelude.{◌+◌, ◌^◌, ◌<◌, length};
 ghost use Rattle.rules.specs.Data.{Call};
 ghost use Rattle.rules.specs.Settle as rule;
-ghost use Rattle.node_addr.specs.View.{FitPair, view_pair, FitMessage, view_message};
+ghost use Rattle.node_addr.specs.View.{view_pair};
+ghost use Rattle.node_addr.specs.Padded.{view};
 ghost use Rattle.table_layout.specs.View.{view_table, FitTable};
 ghost use Rattle.call_contract.specs.Sound.{Ready};
-ghost use Rattle.call_contract.specs.Did.{Space, Did, Ruled};
+ghost use Rattle.refusal.specs.Code.{number_of};
+ghost use Rattle.call_contract.specs.Did.{Space, Did, Ruled, end_of};
 
-use call_contract::Answer;
 use call_limits::{numbers_exhausted, room_refusal};
 use legs::leg::dial_leg;
 use links::record::Dir;
 use node_addr::{LinkNo, Message, NodeAddr, Pair};
 use output_record::put::put_opened;
+use refusal::Refusal;
 use table_layout::head::{next_no, params_of};
 use table_legs::open::open_leg;
 
@@ -30,13 +32,11 @@ fn open_dial(
     clock: u64,
 ) -> usize
     requires fit_table { FitTable t.old }
-    requires fit_pair { FitPair to }
-    requires fit_message { FitMessage msg1 }
     requires t_len_bound { length (view_table t.old).links < 32 }
     requires t_len_bound_2 { length (view_table t.old).legs < 32 }
     requires t_bound { (view_table t.old).next + 1 < 2 ^ 64 }
-    requires space { Space out.old at (rule.dial clock peer.0 (view_pair to) (view_message msg1) lease (view_table t.old)).outs }
-    ensures { Did out.old at t.new out.new result (rule.dial clock peer.0 (view_pair to) (view_message msg1) lease (view_table t.old)) }
+    requires space { Space out.old at (rule.dial clock peer.0 (view_pair to) (view msg1) lease (view_table t.old)).outs }
+    ensures { Did out.old at t.new out.new result (rule.dial clock peer.0 (view_pair to) (view msg1) lease (view_table t.old)) }
 {
     let n = next_no(t);
     let c = params_of(t);
@@ -55,23 +55,14 @@ pub fn dial(
     msg1: Message,
     lease: u32,
     clock: u64,
-) -> Answer
+) -> Result<usize, Refusal>
     requires ready { Ready t.old }
-    requires fit_pair { FitPair to }
-    requires fit_message { FitMessage msg1 }
-    requires space { Space out.old at (rule.step clock (Call.Dial peer.0 (view_pair to) (view_message msg1) lease) (view_table t.old)).step.outs }
-    ensures { Ruled t.old out.old at t.new out.new result.number result.len (rule.step clock (Call.Dial peer.0 (view_pair to) (view_message msg1) lease) (view_table t.old)) }
+    requires space { Space out.old at (rule.step clock (Call.Dial peer.0 (view_pair to) (view msg1) lease) (view_table t.old)).step.outs }
+    ensures { Ruled t.old out.old at t.new out.new (number_of result) (end_of at result) (rule.step clock (Call.Dial peer.0 (view_pair to) (view msg1) lease) (view_table t.old)) }
 {
     if numbers_exhausted(t) {
-        return Answer { number: 4, len: at };
+        return Err(Refusal::Numbers);
     }
-    let e = room_refusal(t, peer);
-    if e != 0 {
-        return Answer { number: e, len: at };
-    }
-    let len = open_dial(t, out, at, peer, to, msg1, lease, clock);
-    Answer {
-        number: 0,
-        len: len,
-    }
+    room_refusal(t, peer)?;
+    Ok(open_dial(t, out, at, peer, to, msg1, lease, clock))
 }

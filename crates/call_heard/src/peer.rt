@@ -7,7 +7,7 @@ ghost use Rattle.node_addr.specs.Place.{pair_here, PairIn};
 ghost use Rattle.table_layout.specs.View.{view_table, FitTable};
 ghost use Rattle.call_contract.specs.Did.{Space, Did};
 
-use node_addr::{Found, NodeAddr};
+use node_addr::NodeAddr;
 use output_code::Transition;
 use output_record::put::put_reset;
 use table_held::{find_held, hear_at, restart_at};
@@ -18,7 +18,7 @@ pub fn restarted(t: &mut [u8], out: &mut [u8], at: usize, peer: NodeAddr, epoch:
     requires space { Space out.old at (rule.restarted peer.0 epoch (view_table t.old)).outs }
     ensures { Did out.old at t.new out.new result (rule.restarted peer.0 epoch (view_table t.old)) }
 {
-    let Found::At(i) = find_held(t, peer) else {
+    let Some(i) = find_held(t, peer) else {
         return at;
     };
     restart_at(t, i, epoch);
@@ -41,7 +41,7 @@ pub fn heard(
     requires space { Space out.old at (rule.heard clock peer.0 (pair_here (drop from rec.now)) (view_table t.old)).outs }
     ensures { Did out.old at t.new out.new result (rule.heard clock peer.0 (pair_here (drop from rec.now)) (view_table t.old)) }
 {
-    let Found::At(i) = find_held(t, peer) else {
+    let Some(i) = find_held(t, peer) else {
         return at;
     };
     let stays = hear_at(t, i, clock, rec, from);

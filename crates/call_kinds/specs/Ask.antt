@@ -1,9 +1,7 @@
 -- What is asked of the step of a kind, and what it answers: the record's fields are read, and the call that they say is settled.
-use Rattle.std.specs.Prelude.{◌≡◌, refl, Bool, true, false, not, ℕ, ◌≤◌, length, drop}
-use Rattle.std.proofs.Common.{sym, subst, arith}
+use Rattle.std.specs.Prelude.{◌≡◌, refl, ℕ, ◌≤◌, length, drop, None, Option, Some}
+use Rattle.std.proofs.Common.{sym, ◌∙◌, subst, arith}
 use Rattle.std.proofs.Math.Path.{ap}
-use Rattle.std.proofs.Math.Option.{Option}
-use Rattle.std.proofs.lemmas.Bool.{not-true, not-false}
 use Rattle.rules.specs.Base.{option, Bytes}
 use Rattle.rules.specs.Data.{Call, Table, Result}
 use Rattle.rules.specs.Field.{Reader, fail}
@@ -27,19 +25,19 @@ pub record Asked (fields : Reader Call) (now at : ℕ) (s t o : Bytes) : Type 0 
 pub record Answers (fields : Reader Call) (now at : ℕ) (s t o t' o' : Bytes) (n r : ℕ) : Type 0 where
   pub ruled : Ruled t o 0 t' o' n r (answered fields now at s (view_table t))
 
-module _ {R : Type 0} {fields : Reader Call} {now at : ℕ} {s t o : Bytes} {good : Bool} {c : Call} {x b : R} (a : Asked fields now at s t o) (r : Reads fields at s good c x b) where
+module _ {fields : Reader Call} {now at : ℕ} {s t o : Bytes} (a : Asked fields now at s t o) {x : Option Call} (r : Reads fields at s x) where
   abbrev settled : Option Call → Result
   settled x = option x (refuse 3 (view_table t)) λ c. step now c (view_table t)
 
   -- the record was no call's
-  pub unread : not good ≡ true → Answers fields now at s t o t o 3 0
+  pub unread : x ≡ None → Answers fields now at s t o t o 3 0
   unfolding answered
-  unread q = record { ruled = ruled_is (ruled_refused 3 a.ready.fit (omega arith)) (sym (ap settled (rw (not-true good q) at r.is))) }
+  unread q = record { ruled = ruled_is (ruled_refused 3 a.ready.fit (omega arith)) (sym (ap settled (r.is ∙ q))) }
 
-  module _ (q : not good ≡ false) where
+  module _ {c : Call} (q : x ≡ Some c) where
     read : answered fields now at s (view_table t) ≡ step now c (view_table t)
     unfolding answered
-    read = ap settled (rw (not-false good q) at r.is)
+    read = ap settled (r.is ∙ q)
 
     pub read_space : Space o 0 (step now c (view_table t)).step.outs
     read_space = space_result a.space read
@@ -47,16 +45,9 @@ module _ {R : Type 0} {fields : Reader Call} {now at : ℕ} {s t o : Bytes} {goo
     pub read_done : {t' o' : Bytes} {n k : ℕ} → Ruled t o 0 t' o' n k (step now c (view_table t)) → Answers fields now at s t o t' o' n k
     read_done d = record { ruled = ruled_is d (sym read) }
 
--- ---- by the kind
-pub asked_kind : (k n : ℕ) {now at : ℕ} {s t o : Bytes} → k ≡ n → Asked (kind_fields k) now at s t o → Asked (kind_fields n) now at s t o
-asked_kind k n {now} {at} {s} {t} {o} e a = subst (λ (k : ℕ). Asked (kind_fields k) now at s t o) e a
-
-pub answers_kind : (k n : ℕ) {now at : ℕ} {s t o t' o' : Bytes} {m r : ℕ} → k ≡ n → Answers (kind_fields n) now at s t o t' o' m r → Answers (kind_fields k) now at s t o t' o' m r
-answers_kind k n {now} {at} {s} {t} {o} {t'} {o'} {m} {r} e a = subst (λ (k : ℕ). Answers (kind_fields k) now at s t o t' o' m r) (sym e) a
-
--- no kind of call
+-- ---- no kind of call
 pub no_kind_answers : (k : ℕ) {now at : ℕ} {s t o : Bytes} → kind_fields k ≡ fail → Asked (kind_fields k) now at s t o → Answers (kind_fields k) now at s t o t o 3 0
 no_kind_answers k {now} {at} {s} {t} {o} e a =
     let b : Asked fail now at s t o = subst (λ (f : Reader Call). Asked f now at s t o) e a in
-    let r : Reads {R = Unit {0}} fail at s false Call.Poll tt tt = record { is = refl; off = λ z. refl } in
+    let r : Reads fail at s None = record { is = refl } in
     subst (λ (f : Reader Call). Answers f now at s t o t o 3 0) (sym e) (unread b r refl)

@@ -3,11 +3,9 @@ use Rattle.std.specs.Prelude.{◌≡◌, refl, Bool, true, false, List, [], ℕ,
 use Rattle.std.proofs.Common.{sym, ap, ◌∙◌, subst, arith}
 use Rattle.rules.specs.Base.{Bytes}
 use Rattle.rules.specs.Data.{Pair, Proven, Live, Probing, Table, Why, Output, Step}
-use Rattle.rules.specs.Field.{fail, whys, why_code, states}
+use Rattle.rules.specs.Field.{whys, why_code, states}
 use Rattle.rules.specs.Links.{path}
-use Rattle.rules.specs.Record.{kinds}
 use Rattle.rules.specs.Settle.{with_links, writes, still, ok, refuse, unsent, crowded, add_path}
-use Rattle.input_call.specs.Read.{kind_fields, no_kind}
 use Rattle.output_record.specs.Write.{Puts, puts_none}
 use Rattle.table_layout.specs.View.{view_table, FitTable, Told}
 use Rattle.table_layout.proofs.Told.{told_same}
@@ -32,20 +30,6 @@ why_is w {k} e = ap (λ (k : ℕ). get_or whys k Why.Restart) (sym e) ∙ same w
 -- the last of three
 pub state_last : (k : ℕ) → k < 3 → (k ≡ 0 → ⊥) → (k ≡ 1 → ⊥) → Probing ≡ get_or states k Live
 state_last k h a b = let e : k ≡ 2 = omega arith in rw e
-
--- ---- a kind that is none of those asked about
-pub is_nine : {k : ℕ} → 6 ≤ k → k < 10 → (k ≡ 6 → ⊥) → (k ≡ 7 → ⊥) → (k ≡ 8 → ⊥) → k ≡ 9
-is_nine h l a b c = omega arith
-
-pub below_six : (k : ℕ) → k < 6 → (k ≡ 1 → ⊥) → (k ≡ 2 → ⊥) → (k ≡ 3 → ⊥) → (k ≡ 4 → ⊥) → (k ≡ 5 → ⊥) → kind_fields k ≡ fail
-unfolding kinds
-below_six k h a b c d e = let z : k ≡ 0 = omega arith in rw z
-
-past : (n k : ℕ) → n ≤ k → (k ≡ n → ⊥) → suc n ≤ k
-past n k l q = omega (arith, q)
-
-pub past_sixteen : (k : ℕ) → 10 < k → (k ≡ 11 → ⊥) → (k ≡ 12 → ⊥) → (k ≡ 13 → ⊥) → (k ≡ 14 → ⊥) → (k ≡ 15 → ⊥) → (k ≡ 16 → ⊥) → kind_fields k ≡ fail
-past_sixteen k h a b c d e f = no_kind k (past 16 k (past 15 k (past 14 k (past 13 k (past 12 k (past 11 k h a) b) c) d) e) f)
 
 -- ---- the table alone
 pub ruled_told : {t o t' : Bytes} {s : Step} → s.outs ≡ [] → Told t' s.table → Ruled t o 0 t' o 0 0 (ok s)

@@ -1,13 +1,12 @@
 -- The places of a table, counted from behind: its memories, then each peer that nothing behind it names.
-use Rattle.std.specs.Prelude.{◌≡◌, Bool, true, false, ◌||◌, ℕ, zero, suc, ◌+◌, ◌≤◌, ◌<◌, drop, get_or, replicate, if◌then◌else◌}
+use Rattle.std.specs.Prelude.{◌≡◌, Bool, true, false, ◌||◌, ℕ, zero, suc, ◌+◌, ◌≤◌, ◌<◌, drop, get_or, if◌then◌else◌, None, Option, Some, is_some}
 use Rattle.std.proofs.Math.Path.{refl, ap}
 use Rattle.std.proofs.Common.{sym, ◌∙◌, subst, add-one, Fits, drop-cons, drop_of_length-le}
-use Rattle.std.proofs.Math.Option.{Option, none, some}
 use mathlib.Core.List.{List, [], ◌∷◌, ◌++◌, map, append_assoc}
 use native.Mathlib.Omega.{arith}
 use Rattle.std.specs.Int.{w64}
 use Rattle.std.proofs.Math.ListN.{length, length-append, length-map}
-use Rattle.rules.specs.Base.{option, is, Bytes, same, any, All}
+use Rattle.rules.specs.Base.{option, Bytes, same, any, All}
 use Rattle.rules.specs.Std.{before, Ascending}
 use Rattle.rules.specs.Data.{Leg, Held, Memory, Table}
 use Rattle.rules.specs.Gates.{memory_of}
@@ -18,7 +17,6 @@ use Rattle.lib_laws.specs.Scan.{scan}
 use Rattle.lib_laws.specs.Place.{any_at, any_nowhere}
 use Rattle.lib_laws.specs.Store.{entries_count}
 use Rattle.legs.specs.View.{leg_of, no_leg}
-use Rattle.legs.specs.At.{named_peer}
 use Rattle.held.specs.View.{held_of, no_held}
 use Rattle.gates.specs.View.{entry_of}
 use Rattle.table_layout.specs.View.{view_table, FitTable, nth_leg, nth_held}
@@ -61,8 +59,8 @@ length_distinct (p ∷ s) = go (any (same p) s) (length_distinct s)
     go false h = omega arith
 
 length_peer : (o : Option Bytes) → length (option o [] (λ p. p ∷ [])) ≤ 1
-length_peer none = omega arith
-length_peer (some p) = omega arith
+length_peer None = omega arith
+length_peer (Some p) = omega arith
 
 length_legs : (s : List Leg) → length (leg_peers s) ≤ length s
 length_legs [] = omega arith
@@ -133,80 +131,56 @@ module _ {t : Bytes} (f : FitTable t) where
 
 -- ---- one leg
 
-pub peer_none : (p : Bytes) (g : Leg) → is g.peer ≡ false → false ≡ any (same p) (peer_of g)
-peer_none p g e = go g.peer e
-  where
-    go : (o : Option Bytes) → is o ≡ false → false ≡ any (same p) (option o [] (λ q. q ∷ []))
-    go none f = refl
-    go (some q) f = cc
+pub peer_none : (p : Bytes) (g : Leg) → g.peer ≡ None → false ≡ any (same p) (peer_of g)
+peer_none p g e = rw e
 
-peers_named : (g : Leg) → is g.peer ≡ true → peer_of g ≡ named_peer g ∷ []
-peers_named g e = go g.peer e
-  where
-    go : (o : Option Bytes) → is o ≡ true → option o [] (λ q. q ∷ []) ≡ option o (replicate 16 0) (λ q. q) ∷ []
-    go none f = cc
-    go (some q) f = refl
+peers_named : (g : Leg) {q : Bytes} → g.peer ≡ Some q → peer_of g ≡ q ∷ []
+peers_named g e = rw e
 
-peers_none : (g : Leg) → is g.peer ≡ false → peer_of g ≡ []
-peers_none g e = go g.peer e
-  where
-    go : (o : Option Bytes) → is o ≡ false → option o [] (λ q. q ∷ []) ≡ []
-    go none f = refl
-    go (some q) f = cc
+peers_none : (g : Leg) → g.peer ≡ None → peer_of g ≡ []
+peers_none g e = rw e
 
 or_no : (b : Bool) → b || false ≡ b
 or_no true = refl
 or_no false = refl
 
-pub peer_some : (p : Bytes) (g : Leg) {q : Bytes} {b : Bool} → is g.peer ≡ true → q ≡ named_peer g → b ≡ same p q → b ≡ any (same p) (peer_of g)
-peer_some p g e f h =
-    h
-    ∙ ap (λ (q : Bytes). same p q) f
-    ∙ sym (or_no (same p (named_peer g)))
-    ∙ sym (ap (λ (s : List Bytes). any (same p) s) (peers_named g e))
+pub peer_some : (p : Bytes) (g : Leg) {q : Bytes} {b : Bool} → g.peer ≡ Some q → b ≡ same p q → b ≡ any (same p) (peer_of g)
+peer_some p g {q} e h = h ∙ sym (or_no (same p q)) ∙ sym (ap (λ (s : List Bytes). any (same p) s) (peers_named g e))
 
 -- ---- legs from a place on: o is the answer, the search stands at the i-th
 
-pub record Asking (o : Bool) (p : Bytes) (s : List Leg) (n i : ℕ) : Type 0 where
-  pub count : n ≡ length s
-  pub small : n ≤ 32
-  pub within : i ≤ n
+pub record Asking (o : Bool) (p : Bytes) (s : List Leg) (i : ℕ) : Type 0 where
   pub left : o ≡ any (same p) (leg_peers (drop i s))
-
-pub asking_start : (p : Bytes) {t : Bytes} {n : ℕ} (i : ℕ) → FitTable t → n ≡ length (view_table t).legs → i ≤ length (view_table t).legs
-    → Asking (any (same p) (leg_peers (drop i (view_table t).legs))) p (view_table t).legs n i
-asking_start p i f e h = record { count = e; small = omega (arith, few_legs f); within = omega arith; left = refl }
 
 legs_here : (s : List Leg) (i : ℕ) → i < length s → leg_peers (drop i s) ≡ peer_of (get_or s i no_leg) ++ leg_peers (drop (i + 1) s)
 legs_here s i h = ap leg_peers (drop-cons s i no_leg h) ∙ rw add-one
 
-module _ {o : Bool} {p : Bytes} {s : List Leg} {n i : ℕ} (a : Asking o p s n i) where
-  asking_at : i < n → o ≡ any (same p) (peer_of (get_or s i no_leg)) || any (same p) (leg_peers (drop (i + 1) s))
+module _ {o : Bool} {p : Bytes} {s : List Leg} {i : ℕ} (a : Asking o p s i) where
+  asking_at : i < length s → o ≡ any (same p) (peer_of (get_or s i no_leg)) || any (same p) (leg_peers (drop (i + 1) s))
   asking_at h =
-      let k : i < length s = omega (arith, a.count) in
-      a.left ∙ ap (λ (u : List Bytes). any (same p) u) (legs_here s i k) ∙ any_append p (peer_of (get_or s i no_leg)) (leg_peers (drop (i + 1) s))
+      a.left ∙ ap (λ (u : List Bytes). any (same p) u) (legs_here s i h) ∙ any_append p (peer_of (get_or s i no_leg)) (leg_peers (drop (i + 1) s))
 
-  pub asking_hit : {b : Bool} → i < n → b ≡ any (same p) (peer_of (get_or s i no_leg)) → b ≡ true → true ≡ o
+  pub asking_hit : {b : Bool} → i < length s → b ≡ any (same p) (peer_of (get_or s i no_leg)) → b ≡ true → true ≡ o
   asking_hit h e f = sym (asking_at h ∙ ap (λ (c : Bool). c || any (same p) (leg_peers (drop (i + 1) s))) (sym e ∙ f))
 
-  pub asking_skip : {b : Bool} → i < n → b ≡ any (same p) (peer_of (get_or s i no_leg)) → b ≡ false → Asking o p s n (i + 1)
-  asking_skip h e f = record {
-    count = a.count;
-    small = a.small;
-    within = omega arith;
-    left = asking_at h ∙ ap (λ (c : Bool). c || any (same p) (leg_peers (drop (i + 1) s))) (sym e ∙ f);
-  }
+  pub asking_skip : {b : Bool} → i < length s → b ≡ any (same p) (peer_of (get_or s i no_leg)) → b ≡ false → Asking o p s (i + 1)
+  asking_skip h e f = record { left = asking_at h ∙ ap (λ (c : Bool). c || any (same p) (leg_peers (drop (i + 1) s))) (sym e ∙ f) }
 
-  pub asking_in : i < n → i < length s
-  asking_in h = omega (arith, a.count)
-
-  pub asking_fits : i < n → Fits w64 (i + 1)
-  asking_fits h = record { fits = omega (arith, a.small) }
-
-  pub asking_end : n ≤ i → false ≡ o
-  asking_end h = sym (a.left ∙ ap (λ (u : List Leg). any (same p) (leg_peers u)) (drop_of_length-le s {i = i} (omega (arith, a.count))))
+  pub asking_end : length s ≤ i → false ≡ o
+  asking_end h = sym (a.left ∙ ap (λ (u : List Leg). any (same p) (leg_peers u)) (drop_of_length-le s {i = i} h))
 
 -- ---- memories, held peers
+
+-- a search finds one exactly where there is one
+scan_any : {A : Type 0} (f : A → Bool) (s : List A) → is_some (scan f 0 s) ≡ any f s
+scan_any f s = go (scan f 0 s) refl
+  where
+    go : (o : Option ℕ) → scan f 0 s ≡ o → is_some o ≡ any f s
+    go None e = sym (any_nowhere f s e)
+    go (Some i) e = sym (any_at f s i e)
+
+scanned : {A : Type 0} (f : A → Bool) (s : List A) {o : Option ℕ} {b c : Bool} → o ≡ scan f 0 s → b ≡ is_some o → b ≡ c → any f s ≡ c
+scanned f s e g h = sym (scan_any f s) ∙ sym (ap is_some e) ∙ sym g ∙ h
 
 module _ (x : Table) (p : Bytes) where
   from_split : (i : ℕ) → any (same p) (from_leg x i) ≡ any (same p) (leg_peers (drop i x.legs)) || any (memory_of p) x.gates
@@ -218,15 +192,16 @@ module _ (x : Table) (p : Bytes) where
   or_yes true = refl
   or_yes false = refl
 
-  pub from_memory : (i : ℕ) {j : ℕ} → scan (memory_of p) 0 x.gates ≡ some j → true ≡ any (same p) (from_leg x i)
-  from_memory i {j} e =
-      or_yes (any (same p) (leg_peers (drop i x.legs)))
-      ∙ sym (from_split i ∙ ap (λ (b : Bool). any (same p) (leg_peers (drop i x.legs)) || b) (any_at (memory_of p) x.gates j e))
+  module _ (i : ℕ) {o : Option ℕ} {b : Bool} (e : o ≡ scan (memory_of p) 0 x.gates) (g : b ≡ is_some o) where
+    pub from_memory : b ≡ true → true ≡ any (same p) (from_leg x i)
+    from_memory h =
+        or_yes (any (same p) (leg_peers (drop i x.legs)))
+        ∙ sym (from_split i ∙ ap (λ (c : Bool). any (same p) (leg_peers (drop i x.legs)) || c) (scanned (memory_of p) x.gates e g h))
 
-  pub from_leg_lem : (i : ℕ) {b : Bool} → scan (memory_of p) 0 x.gates ≡ none → b ≡ any (same p) (leg_peers (drop i x.legs)) → b ≡ any (same p) (from_leg x i)
-  from_leg_lem i e f =
-      f
-      ∙ sym (from_split i ∙ ap (λ (b : Bool). any (same p) (leg_peers (drop i x.legs)) || b) (any_nowhere (memory_of p) x.gates e) ∙ or_no (any (same p) (leg_peers (drop i x.legs))))
+    pub from_leg_lem : {r : Bool} → b ≡ false → r ≡ any (same p) (leg_peers (drop i x.legs)) → r ≡ any (same p) (from_leg x i)
+    from_leg_lem h f =
+        f
+        ∙ sym (from_split i ∙ ap (λ (c : Bool). any (same p) (leg_peers (drop i x.legs)) || c) (scanned (memory_of p) x.gates e g h) ∙ or_no (any (same p) (leg_peers (drop i x.legs))))
 
   peers_are : named_peers x ≡ from_held x 0
   peers_are = append_assoc (map (λ h. h.peer) x.held) (leg_peers x.legs) (remembered x)
@@ -239,11 +214,12 @@ module _ (x : Table) (p : Bytes) where
       ∙ any_append p (map (λ h. h.peer) x.held) (from_leg x 0)
       ∙ ap (λ (b : Bool). b || any (same p) (from_leg x 0)) (any_map (λ h. h.peer) p x.held)
 
-  pub place_held : {j : ℕ} → scan (named p) 0 x.held ≡ some j → true ≡ any (same p) (places x)
-  place_held {j} e = sym (place_split ∙ ap (λ (b : Bool). b || any (same p) (from_leg x 0)) (any_at (named p) x.held j e))
+  module _ {o : Option ℕ} {b : Bool} (e : o ≡ scan (named p) 0 x.held) (g : b ≡ is_some o) where
+    pub place_held : b ≡ true → true ≡ any (same p) (places x)
+    place_held h = sym (place_split ∙ ap (λ (c : Bool). c || any (same p) (from_leg x 0)) (scanned (named p) x.held e g h))
 
-  pub place_else : {b : Bool} → scan (named p) 0 x.held ≡ none → b ≡ any (same p) (from_leg x 0) → b ≡ any (same p) (places x)
-  place_else e f = f ∙ sym (place_split ∙ ap (λ (b : Bool). b || any (same p) (from_leg x 0)) (any_nowhere (named p) x.held e))
+    pub place_else : {r : Bool} → b ≡ false → r ≡ any (same p) (from_leg x 0) → r ≡ any (same p) (places x)
+    place_else h f = f ∙ sym (place_split ∙ ap (λ (c : Bool). c || any (same p) (from_leg x 0)) (scanned (named p) x.held e g h))
 
 -- ---- what a leg adds
 
@@ -255,21 +231,18 @@ module _ (x : Table) {i : ℕ} (h : i < length x.legs) where
   unfolding places_from
   leg_adds s e = ap (λ (u : List Bytes). length (distinct u)) (leg_from ∙ ap (λ (u : List Bytes). u ++ from_leg x (i + 1)) e)
 
-  pub leg_unnamed : is (nth_leg x i).peer ≡ false → places_from x i ≡ 0 + places_from x (i + 1)
+  pub leg_unnamed : (nth_leg x i).peer ≡ None → places_from x i ≡ 0 + places_from x (i + 1)
   unfolding places_from
   leg_unnamed e = omega (arith, leg_adds [] (peers_none (nth_leg x i) e))
 
-  module _ {q : Bytes} {b : Bool} (n : is (nth_leg x i).peer ≡ true) (e : q ≡ named_peer (nth_leg x i)) (f : b ≡ any (same q) (from_leg x (i + 1))) where
-    names : any (same (named_peer (nth_leg x i))) (from_leg x (i + 1)) ≡ b
-    names = sym (f ∙ ap (λ (p : Bytes). any (same p) (from_leg x (i + 1))) e)
-
+  module _ {q : Bytes} {b : Bool} (n : (nth_leg x i).peer ≡ Some q) (f : b ≡ any (same q) (from_leg x (i + 1))) where
     pub leg_again : b ≡ true → places_from x i ≡ 0 + places_from x (i + 1)
     unfolding places_from
-    leg_again t = omega (arith, leg_adds (named_peer (nth_leg x i) ∷ []) (peers_named (nth_leg x i) n), distinct_same (named_peer (nth_leg x i)) (from_leg x (i + 1)) (names ∙ t))
+    leg_again t = omega (arith, leg_adds (q ∷ []) (peers_named (nth_leg x i) n), distinct_same q (from_leg x (i + 1)) (sym f ∙ t))
 
     pub leg_new : b ≡ false → places_from x i ≡ 1 + places_from x (i + 1)
     unfolding places_from
-    leg_new t = omega (arith, leg_adds (named_peer (nth_leg x i) ∷ []) (peers_named (nth_leg x i) n), distinct_more (named_peer (nth_leg x i)) (from_leg x (i + 1)) (names ∙ t))
+    leg_new t = omega (arith, leg_adds (q ∷ []) (peers_named (nth_leg x i) n), distinct_more q (from_leg x (i + 1)) (sym f ∙ t))
 
 -- ---- what a held peer adds
 
@@ -302,23 +275,15 @@ module _ (x : Table) (o : Ascending earlier_held x.held) {i : ℕ} (h : i < leng
     unfolding held_from
     held_new t = omega (arith, held_adds, distinct_more (nth_held x i).peer (from_held x (i + 1)) (names_held ∙ t))
 
--- ---- a count from behind: k are counted before the i-th of n, m behind all
+-- ---- a count from behind: k are counted before the i-th, m behind all
 
-pub record Tallied (f : ℕ → ℕ) (m n i k : ℕ) : Type 0 where
-  pub within : i ≤ n
-  pub few : n ≤ 32
+pub record Tallied (f : ℕ → ℕ) (m i k : ℕ) : Type 0 where
   pub small : m + f 0 ≤ 160
   pub left : k + f i ≡ m + f 0
 
-module _ {f : ℕ → ℕ} {m n i k : ℕ} (a : Tallied f m n i k) (r : ℕ) (e : f i ≡ r + f (i + 1)) where
-  pub tallied_turn : i < n → Tallied f m n (i + 1) (k + r)
-  tallied_turn h = record { within = omega arith; few = a.few; small = a.small; left = omega (arith, a.left) }
-
-  pub tallied_fits : Fits w64 (k + r)
-  tallied_fits = record { fits = omega (arith, a.left, a.small) }
-
-pub tallied_next : {f : ℕ → ℕ} {m n i k : ℕ} → Tallied f m n i k → i < n → Fits w64 (i + 1)
-tallied_next a h = record { fits = omega (arith, a.few) }
+module _ {f : ℕ → ℕ} {m i k : ℕ} (a : Tallied f m i k) (r : ℕ) (e : f i ≡ r + f (i + 1)) where
+  pub tallied_turn : Tallied f m (i + 1) (k + r)
+  tallied_turn = record { small = a.small; left = omega (arith, a.left) }
 
 module _ {x : Table} (s : Sound x) where
   most_legs : places_from x 0 ≤ 64
@@ -349,27 +314,27 @@ module _ {x : Table} (s : Sound x) where
     s.shaped.limits.gates,
   )
 
-  pub legs_start : {m n : ℕ} → m ≡ length x.gates → n ≡ length x.legs → Tallied (places_from x) m n 0 m
-  legs_start e c = record { within = omega arith; few = omega (arith, owners s, links_most s); small = omega (arith, most_legs, s.shaped.limits.gates); left = refl }
+  pub legs_start : {m : ℕ} → m ≡ length x.gates → Tallied (places_from x) m 0 m
+  legs_start e = record { small = omega (arith, most_legs, s.shaped.limits.gates); left = refl }
 
-  pub legs_end : {m n i k : ℕ} → m ≡ length x.gates → n ≡ length x.legs → Tallied (places_from x) m n i k → n ≤ i → k ≡ places_from x 0
+  pub legs_end : {m i k : ℕ} → m ≡ length x.gates → Tallied (places_from x) m i k → length x.legs ≤ i → k ≡ places_from x 0
   unfolding places_from
-  legs_end {i = i} e c a h = omega (arith, a.left, last)
+  legs_end {i = i} e a h = omega (arith, a.left, last)
     where
       last : places_from x i ≡ length x.gates
       last =
-          ap (λ (u : List Leg). length (distinct (leg_peers u ++ remembered x))) (drop_of_length-le x.legs {i = i} (omega (arith, c, h)))
+          ap (λ (u : List Leg). length (distinct (leg_peers u ++ remembered x))) (drop_of_length-le x.legs {i = i} h)
           ∙ distinct_keys (λ (m : Memory). m.peer) x.gates s.shaped.ordered.gates
 
-  pub held_start : {m n : ℕ} → m ≡ places_from x 0 → n ≡ length x.held → Tallied (held_from x) m n 0 m
-  held_start e c = record { within = omega arith; few = omega (arith, owners s, links_most s); small = omega (arith, most_legs, most_held); left = refl }
+  pub held_start : {m : ℕ} → m ≡ places_from x 0 → Tallied (held_from x) m 0 m
+  held_start e = record { small = omega (arith, most_legs, most_held); left = refl }
 
-  pub held_end : {m n i k : ℕ} → m ≡ places_from x 0 → n ≡ length x.held → Tallied (held_from x) m n i k → n ≤ i → k ≡ length (places x)
+  pub held_end : {m i k : ℕ} → m ≡ places_from x 0 → Tallied (held_from x) m i k → length x.held ≤ i → k ≡ length (places x)
   unfolding places places_from held_from
-  held_end {i = i} e c a h = omega (arith, a.left, last, whole)
+  held_end {i = i} e a h = omega (arith, a.left, last, whole)
     where
       last : held_from x i ≡ places_from x 0
-      last = ap (λ (u : List Held). length (distinct (map (λ (h : Held). h.peer) u ++ from_leg x 0))) (drop_of_length-le x.held {i = i} (omega (arith, c, h)))
+      last = ap (λ (u : List Held). length (distinct (map (λ (h : Held). h.peer) u ++ from_leg x 0))) (drop_of_length-le x.held {i = i} h)
 
       whole : length (distinct (named_peers x)) ≡ held_from x 0
       whole = ap (λ (u : List Bytes). length (distinct u)) (peers_are x x.me)

@@ -2,12 +2,16 @@
 use Rattle.std.specs.Prelude.{◌≡◌, Bool, true, false, not, ◌&&◌, List, ℕ, ◌+◌, ◌-◌, ◌^◌, ◌≤◌, ◌<◌, eqb, leb, ltb, length, if◌then◌else◌}
 use Rattle.std.proofs.Math.Path.{refl, sym}
 use Rattle.std.proofs.Common.{ap, ◌∙◌, arith}
-use borrow.Author.Tests.{eq-eqb, ne_eqb, eqb-false, le-leb, lt-leb, ltb-true}
+use borrow.Author.Tests.{eqb-false, le-leb, lt-leb, ltb-true}
 use Rattle.rules.specs.Base.{Bytes, same, any}
 use Rattle.rules.specs.Data.{LinkRec, Table, Result}
 use Rattle.rules.specs.Settle.{refuse, places, numbering}
 use Rattle.rules.specs.Settle as rule
-use Rattle.rules.proofs.Walk.{Numbers, Room}
+use Rattle.refusal.specs.Code.{code}
+use Rattle.refusal.specs.declared.Refusal.{Refusal}
+use Rattle.refusal.specs.declared.Refusal.TheVariants.{Settings, Buffer, Record, Numbers, Links, Names, Paths}
+use Rattle.rules.proofs.Walk.{Room}
+use Rattle.rules.proofs.Walk as walk
 use Rattle.call_contract.specs.Sound.{Sound}
 use Rattle.call_limits.specs.Count.{places_few}
 
@@ -19,12 +23,18 @@ pub record Enters (n : ℕ) (p : Bytes) (x : Table) : Type 0 where
 
 -- ---- for callers
 
-module _ {n : ℕ} {p : Bytes} {x : Table} (e : Enters n p x) (d : Result) where
-  pub entering_passed : n ≡ 0 → rule.entering p x d ≡ d
-  entering_passed h = e.is d ∙ ap (λ (b : Bool). if b then d else refuse n x) (eq-eqb n 0 h)
+module _ {p : Bytes} {x : Table} where
+  pub entering_passed : Enters 0 p x → (d : Result) → rule.entering p x d ≡ d
+  entering_passed e d = e.is d
 
-  pub entering_refused : (n ≡ 0 → ⊥) → rule.entering p x d ≡ refuse n x
-  entering_refused h = e.is d ∙ ap (λ (b : Bool). if b then d else refuse n x) (ne_eqb n 0 h)
+  pub entering_refused : (r : Refusal) → Enters (code r) p x → (d : Result) → rule.entering p x d ≡ refuse (code r) x
+  entering_refused Settings e d = e.is d
+  entering_refused Buffer e d = e.is d
+  entering_refused Record e d = e.is d
+  entering_refused Numbers e d = e.is d
+  entering_refused Links e d = e.is d
+  entering_refused Names e d = e.is d
+  entering_refused Paths e d = e.is d
 
 module _ (x : Table) {b : Bool} (e : b ≡ eqb x.next (2 ^ 64 - 1)) where
   pub numbering_refused : (d : Result) → b ≡ true → numbering x d ≡ refuse 4 x
@@ -35,7 +45,7 @@ module _ (x : Table) {b : Bool} (e : b ≡ eqb x.next (2 ^ 64 - 1)) where
   unfolding numbering
   numbering_passed d h = rw (← e, h)
 
-  pub numbers : b ≡ false → Numbers x
+  pub numbers : b ≡ false → walk.Numbers x
   numbers h = sym e ∙ h
 
   -- the next number is not the last

@@ -8,7 +8,7 @@ ghost use Rattle.call_limits.specs.Count.{places_from, held_from};
 use crate::named::named_from;
 use table_gates::memory_count;
 use table_held::{held_count, held_peer};
-use table_legs::{leg_count, leg_has_peer, leg_peer};
+use table_legs::{leg_count, leg_peer};
 
 // 1 if the i-th leg names a peer that no later leg and no memory names, else 0.
 fn leg_place(t: &[u8], i: usize) -> usize
@@ -16,14 +16,10 @@ fn leg_place(t: &[u8], i: usize) -> usize
     requires i_in_bounds { i < length (view_table t.now).legs }
     ensures { places_from (view_table t.now) i ≡ result + places_from (view_table t.now) (i + 1) }
 {
-    if !leg_has_peer(t, i) {
-        return 0;
+    match leg_peer(t, i) {
+        Some(p) if !named_from(t, i + 1, p) => 1,
+        _ => 0,
     }
-    let p = leg_peer(t, i);
-    if named_from(t, i + 1, p) {
-        return 0;
-    }
-    1
 }
 
 // The places of legs and memories.
@@ -31,12 +27,9 @@ fn leg_places(t: &[u8]) -> usize
     requires { Ready t.now }
     ensures { result ≡ places_from (view_table t.now) 0 }
 {
-    let n = leg_count(t);
     let mut k = memory_count(t);
-    let mut i = 0;
-    while i < n {
+    for i in 0..leg_count(t) {
         k += leg_place(t, i);
-        i += 1;
     }
     k
 }
@@ -47,11 +40,11 @@ fn held_place(t: &[u8], i: usize) -> usize
     requires i_in_bounds { i < length (view_table t.now).held }
     ensures { held_from (view_table t.now) i ≡ result + held_from (view_table t.now) (i + 1) }
 {
-    let p = held_peer(t, i);
-    if named_from(t, 0, p) {
-        return 0;
+    if named_from(t, 0, held_peer(t, i)) {
+        0
+    } else {
+        1
     }
-    1
 }
 
 // The places of all.
@@ -59,12 +52,9 @@ pub fn count_places(t: &[u8]) -> usize
     requires { Ready t.now }
     ensures { result ≡ length (places (view_table t.now)) }
 {
-    let n = held_count(t);
     let mut k = leg_places(t);
-    let mut i = 0;
-    while i < n {
+    for i in 0..held_count(t) {
         k += held_place(t, i);
-        i += 1;
     }
     k
 }

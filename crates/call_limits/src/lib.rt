@@ -5,6 +5,7 @@ pub mod count;
 pub mod named;
 
 ghost use Rattle.std.specs.Prelude.{◌≡◌, ◌+◌, ◌-◌, ◌^◌, eqb, ltb, length};
+ghost use Rattle.refusal.specs.Code.{number_of};
 ghost use Rattle.call_contract.specs.Sound.{Ready};
 ghost use Rattle.table_layout.specs.View.{view_table, FitTable};
 ghost use Rattle.call_limits.specs.Enter.{Enters};
@@ -13,6 +14,7 @@ use crate::count::count_places;
 use crate::named::has_place;
 use links_entry::layout::LINK_CAP;
 use node_addr::NodeAddr;
+use refusal::Refusal;
 use table_gates::memory_count;
 use table_held::held_count;
 use table_layout::head::next_no;
@@ -30,8 +32,7 @@ pub fn numbers_exhausted(t: &[u8]) -> bool
     requires { FitTable t.now }
     ensures { result ≡ eqb (view_table t.now).next (2 ^ 64 - 1) }
 {
-    let n = next_no(t);
-    n == LAST_NO
+    next_no(t) == LAST_NO
 }
 
 // Whether held peers, legs and memories together are so few that a place is left.
@@ -39,30 +40,19 @@ fn roomy(t: &[u8]) -> bool
     requires { FitTable t.now }
     ensures { result ≡ ltb (length (view_table t.now).held + length (view_table t.now).legs + length (view_table t.now).gates) 32 }
 {
-    let h = held_count(t);
-    let l = leg_count(t);
-    let m = memory_count(t);
-    h + l + m < PLACES
+    held_count(t) + leg_count(t) + memory_count(t) < PLACES
 }
 
-// 5: 32 links are live; 6: the peer has no place and 32 places are used; 0: neither.
-pub fn room_refusal(t: &[u8], peer: NodeAddr) -> u8
+// Whether there is room for a link with the peer: refused where 32 links are live, or the peer has no place and 32 places are used.
+pub fn room_refusal(t: &[u8], peer: NodeAddr) -> Result<(), Refusal>
     requires { Ready t.now }
-    ensures { Enters result peer.0 (view_table t.now) }
+    ensures { Enters (number_of result) peer.0 (view_table t.now) }
 {
-    let n = link_count(t);
-    if LINK_CAP <= n {
-        return 5;
+    if LINK_CAP <= link_count(t) {
+        return Err(Refusal::Links);
     }
-    if roomy(t) {
-        return 0;
+    if roomy(t) || has_place(t, peer) || count_places(t) < PLACES {
+        return Ok(());
     }
-    if has_place(t, peer) {
-        return 0;
-    }
-    let k = count_places(t);
-    if k < PLACES {
-        return 0;
-    }
-    6
+    Err(Refusal::Names)
 }

@@ -5,11 +5,10 @@ ghost use Rattle.rules.specs.Settle.{peer_of, leg_peers, places};
 ghost use Rattle.table_layout.specs.View.{view_table, FitTable, nth_leg};
 ghost use Rattle.call_limits.specs.Count.{from_leg};
 
-use node_addr::same::same_node;
-use node_addr::{Found, NodeAddr};
+use node_addr::NodeAddr;
 use table_gates::find_memory;
 use table_held::find_held;
-use table_legs::{leg_count, leg_has_peer, leg_peer};
+use table_legs::{leg_count, leg_peer};
 
 // Whether the i-th leg names the peer.
 fn leg_is(t: &[u8], i: usize, peer: NodeAddr) -> bool
@@ -17,11 +16,10 @@ fn leg_is(t: &[u8], i: usize, peer: NodeAddr) -> bool
     requires i_in_bounds { i < length (view_table t.now).legs }
     ensures { result ≡ any (same peer.0) (peer_of (nth_leg (view_table t.now) i)) }
 {
-    if !leg_has_peer(t, i) {
-        return false;
+    match leg_peer(t, i) {
+        Some(q) => peer == q,
+        None => false,
     }
-    let q = leg_peer(t, i);
-    same_node(peer, q)
 }
 
 // Whether a leg from a place on names the peer.
@@ -30,13 +28,10 @@ pub fn leg_names(t: &[u8], from: usize, peer: NodeAddr) -> bool
     requires from_in_bounds { from ≤ length (view_table t.now).legs }
     ensures { result ≡ any (same peer.0) (leg_peers (drop from (view_table t.now).legs)) }
 {
-    let n = leg_count(t);
-    let mut i = from;
-    while i < n {
+    for i in from..leg_count(t) {
         if leg_is(t, i, peer) {
             return true;
         }
-        i += 1;
     }
     false
 }
@@ -47,10 +42,7 @@ pub fn named_from(t: &[u8], from: usize, peer: NodeAddr) -> bool
     requires from_in_bounds { from ≤ length (view_table t.now).legs }
     ensures { result ≡ any (same peer.0) (from_leg (view_table t.now) from) }
 {
-    match find_memory(t, peer) {
-        Found::At(_) => true,
-        Found::Nothing => leg_names(t, from, peer),
-    }
+    find_memory(t, peer).is_some() || leg_names(t, from, peer)
 }
 
 // Whether the peer has a place.
@@ -58,8 +50,5 @@ pub fn has_place(t: &[u8], peer: NodeAddr) -> bool
     requires { FitTable t.now }
     ensures { result ≡ any (same peer.0) (places (view_table t.now)) }
 {
-    match find_held(t, peer) {
-        Found::At(_) => true,
-        Found::Nothing => named_from(t, 0, peer),
-    }
+    find_held(t, peer).is_some() || named_from(t, 0, peer)
 }

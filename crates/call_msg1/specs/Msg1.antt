@@ -1,8 +1,7 @@
 -- What `msg1` comes to.
-use Rattle.std.specs.Prelude.{◌≡◌, Bool, true, [], ◌∷◌, ℕ, ◌+◌, ◌≤◌, length}
+use Rattle.std.specs.Prelude.{◌≡◌, Bool, true, [], ◌∷◌, ℕ, ◌+◌, ◌≤◌, length, None, Some}
 use Rattle.std.proofs.Math.Path.{refl}
 use Rattle.std.proofs.Common.{ap, ◌∙◌, arith}
-use Rattle.std.proofs.Math.Option.{none, some}
 use borrow.Author.Tests.{eq-eqb, ne_eqb}
 use Rattle.rules.specs.Base.{Bytes}
 use Rattle.rules.specs.Data.{Pair, Held, Table, Hello, Source, Call, Output, Free, Rekey}
@@ -13,17 +12,17 @@ use Rattle.output_record.specs.Write.{Puts, puts_one}
 use Rattle.call_contract.specs.Did.{Space, space_head, space_tail, puts_cons}
 
 module _ (now : ℕ) (y : Hello) (reachable : Bool) (x : Table) where
-  pub msg1_stored : {n : ℕ} {m : Bytes} → stored y.from y.bytes x ≡ some (record { link = n; msg2 = m })
+  pub msg1_stored : {n : ℕ} {m : Bytes} → stored y.from y.bytes x ≡ Some (record { link = n; msg2 = m })
       → msg1 now y reachable x ≡ ok (writes (Output.Answer n true m ∷ Free y.lease ∷ []) x)
   unfolding msg1
   msg1_stored e = rw e
 
-  module _ (e : stored y.from y.bytes x ≡ none) where
-    pub msg1_new : held_at y.peer x ≡ none → msg1 now y reachable x ≡ admit now Source.NotHeld y x
+  module _ (e : stored y.from y.bytes x ≡ None) where
+    pub msg1_new : held_at y.peer x ≡ None → msg1 now y reachable x ≡ admit now Source.NotHeld y x
     unfolding msg1
     msg1_new q = rw (e, q)
 
-    module _ {h : Held} (q : held_at y.peer x ≡ some h) {n : ℕ} (v : n ≡ h.epoch) where
+    module _ {h : Held} (q : held_at y.peer x ≡ Some h) {n : ℕ} (v : n ≡ h.epoch) where
       pub msg1_restart : (n ≡ y.epoch → ⊥) → msg1 now y reachable x ≡ admit now Source.Restart y x
       unfolding msg1
       msg1_restart d = rw (e, q, ← v, ne_eqb n y.epoch d)

@@ -1,6 +1,5 @@
 // The calls of a msg1: one that came before is answered as then, one of the same session is a rekey, any other asks to be admitted.
 ghost use Rattle.std.specs.Prelude.{◌≡◌, true, [], ◌∷◌, ◌+◌, ◌<◌, ◌^◌, length, drop};
-ghost use Rattle.std.proofs.Math.Option.{none, some};
 ghost use Rattle.rules.specs.Data as shape;
 ghost use Rattle.rules.specs.Data.{Output, Rekey, Free};
 ghost use Rattle.rules.specs.Settle as rule;
@@ -9,18 +8,18 @@ ghost use Rattle.legs.specs.At.{answer_of};
 ghost use Rattle.input_call.specs.Hello.{hello_of, FitHello};
 ghost use Rattle.output_record.specs.Write.{Puts};
 ghost use Rattle.table_layout.specs.View.{view_table, FitTable, nth_leg, nth_held};
-ghost use Rattle.call_contract.specs.Did.{Space, Ruled};
+ghost use Rattle.refusal.specs.Code.{number_of};
+ghost use Rattle.call_contract.specs.Did.{Space, Ruled, end_of};
 ghost use Rattle.call_contract.specs.Sound.{Ready};
 
 use call_admit::admit::{admit, admit_held, admit_new};
 use call_admit::put::put_msg2;
-use call_contract::Answer;
 use call_limits::numbers_exhausted;
 use gates_types::Source;
 use input_call::hello::Hello;
-use node_addr::Found;
 use node_addr::place::load_wire_pair;
 use output_record::put::{put_free, put_rekey};
+use refusal::Refusal;
 use table_held::{find_held, held_epoch};
 use table_query::{attributed, stored};
 
@@ -69,26 +68,22 @@ fn held_msg1(
     h: Hello,
     reachable: bool,
     clock: u64,
-) -> Answer
+) -> Result<usize, Refusal>
     requires ready { Ready t.old }
     requires fit_hello { FitHello s.now h }
     requires t_bound { (view_table t.old).next + 1 < 2 ^ 64 }
-    requires t_value { rule.stored (hello_of s.now h).from (hello_of s.now h).bytes (view_table t.old) ≡ none }
+    requires t_value { rule.stored (hello_of s.now h).from (hello_of s.now h).bytes (view_table t.old) ≡ None }
     requires i_in_bounds { i < length (view_table t.old).held }
-    requires t_value_2 { rule.held_at h.peer.0 (view_table t.old) ≡ some (nth_held (view_table t.old) i) }
+    requires t_value_2 { rule.held_at h.peer.0 (view_table t.old) ≡ Some (nth_held (view_table t.old) i) }
     requires space { Space out.old at (rule.msg1 clock (hello_of s.now h) reachable (view_table t.old)).step.outs }
-    ensures { Ruled t.old out.old at t.new out.new result.number result.len
+    ensures { Ruled t.old out.old at t.new out.new (number_of result) (end_of at result)
         (rule.msg1 clock (hello_of s.now h) reachable (view_table t.old)) }
 {
     let e = held_epoch(t, i);
     if e != h.epoch {
         return admit_held(t, out, at, i, s, h, Source::Restart, clock);
     }
-    let len = rekey(t, out, at, i, s, h, reachable);
-    Answer {
-        number: 0,
-        len: len,
-    }
+    Ok(rekey(t, out, at, i, s, h, reachable))
 }
 
 // No msg2 is stored for it.
@@ -100,19 +95,18 @@ fn new_msg1(
     h: Hello,
     reachable: bool,
     clock: u64,
-) -> Answer
+) -> Result<usize, Refusal>
     requires ready { Ready t.old }
     requires fit_hello { FitHello s.now h }
     requires t_bound { (view_table t.old).next + 1 < 2 ^ 64 }
-    requires t_value { rule.stored (hello_of s.now h).from (hello_of s.now h).bytes (view_table t.old) ≡ none }
+    requires t_value { rule.stored (hello_of s.now h).from (hello_of s.now h).bytes (view_table t.old) ≡ None }
     requires space { Space out.old at (rule.msg1 clock (hello_of s.now h) reachable (view_table t.old)).step.outs }
-    ensures { Ruled t.old out.old at t.new out.new result.number result.len
+    ensures { Ruled t.old out.old at t.new out.new (number_of result) (end_of at result)
         (rule.msg1 clock (hello_of s.now h) reachable (view_table t.old)) }
 {
-    let peer = h.peer;
-    match find_held(t, peer) {
-        Found::At(i) => held_msg1(t, out, at, i, s, h, reachable, clock),
-        Found::Nothing => admit_new(t, out, at, s, h, clock),
+    match find_held(t, h.peer) {
+        Some(i) => held_msg1(t, out, at, i, s, h, reachable, clock),
+        None => admit_new(t, out, at, s, h, clock),
     }
 }
 
@@ -125,24 +119,18 @@ fn numbered_msg1(
     h: Hello,
     reachable: bool,
     clock: u64,
-) -> Answer
+) -> Result<usize, Refusal>
     requires ready { Ready t.old }
     requires fit_hello { FitHello s.now h }
     requires t_bound { (view_table t.old).next + 1 < 2 ^ 64 }
     requires space { Space out.old at (rule.msg1 clock (hello_of s.now h) reachable (view_table t.old)).step.outs }
-    ensures { Ruled t.old out.old at t.new out.new result.number result.len
+    ensures { Ruled t.old out.old at t.new out.new (number_of result) (end_of at result)
         (rule.msg1 clock (hello_of s.now h) reachable (view_table t.old)) }
 {
     let m = h.message;
     match stored(t, s, h.from, m.at, m.len) {
-        Found::At(i) => {
-            let len = repeat(t, out, at, i, h.lease);
-            Answer {
-                number: 0,
-                len: len,
-            }
-        }
-        Found::Nothing => new_msg1(t, out, at, s, h, reachable, clock),
+        Some(i) => Ok(repeat(t, out, at, i, h.lease)),
+        None => new_msg1(t, out, at, s, h, reachable, clock),
     }
 }
 
@@ -155,15 +143,15 @@ pub fn msg1(
     h: Hello,
     reachable: bool,
     clock: u64,
-) -> Answer
+) -> Result<usize, Refusal>
     requires ready { Ready t.old }
     requires fit_hello { FitHello s.now h }
     requires space { Space out.old at (rule.step clock (shape.Call.Msg1 (hello_of s.now h) reachable) (view_table t.old)).step.outs }
-    ensures { Ruled t.old out.old at t.new out.new result.number result.len
+    ensures { Ruled t.old out.old at t.new out.new (number_of result) (end_of at result)
         (rule.step clock (shape.Call.Msg1 (hello_of s.now h) reachable) (view_table t.old)) }
 {
     if numbers_exhausted(t) {
-        return Answer { number: 4, len: at };
+        return Err(Refusal::Numbers);
     }
     numbered_msg1(t, out, at, s, h, reachable, clock)
 }
@@ -176,15 +164,15 @@ pub fn replacement(
     s: &[u8],
     h: Hello,
     clock: u64,
-) -> Answer
+) -> Result<usize, Refusal>
     requires ready { Ready t.old }
     requires fit_hello { FitHello s.now h }
     requires space { Space out.old at (rule.step clock (shape.Call.Replacement (hello_of s.now h)) (view_table t.old)).step.outs }
-    ensures { Ruled t.old out.old at t.new out.new result.number result.len
+    ensures { Ruled t.old out.old at t.new out.new (number_of result) (end_of at result)
         (rule.step clock (shape.Call.Replacement (hello_of s.now h)) (view_table t.old)) }
 {
     if numbers_exhausted(t) {
-        return Answer { number: 4, len: at };
+        return Err(Refusal::Numbers);
     }
     admit(t, out, at, s, h, Source::Replacement, clock)
 }

@@ -1,7 +1,6 @@
 -- A dial is complete: the peer is held, or the holder moves. What was written and what the table shows make the step.
-use Rattle.std.specs.Prelude.{◌≡◌, true, List, [], ◌∷◌, ℕ, ◌+◌, ◌≤◌, length}
+use Rattle.std.specs.Prelude.{◌≡◌, true, List, [], ◌∷◌, ℕ, ◌+◌, ◌≤◌, length, None}
 use Rattle.std.proofs.Common.{sym, ap, ◌∙◌}
-use Rattle.std.proofs.Math.Option.{none}
 use Rattle.rules.specs.Base.{Bytes, alter}
 use Rattle.rules.specs.Data.{Pair, APeer, LinkRec, Leg, Held, Table, Transition, Move, Fresh, FromCarry, Installed, Output, Install, Reset, Retire}
 use Rattle.rules.specs.Links.{hold, retired, retiring}
@@ -17,7 +16,7 @@ use Rattle.call_sent.specs.Install.{install_fits, reset_fits, seated}
 -- ---- the peer is held, heard
 module _ (now : ℕ) (p : Bytes) (g : Leg) (epoch : ℕ) (from : Pair) (how : Transition) (x : Table) {n l : ℕ} (e : n ≡ g.link) (q : l ≡ g.lease) where
   abbrev holder : Held
-  holder = record { peer = p; link = n; epoch = epoch; current = from; heard = true; installed = now; last = none; setup = none }
+  holder = record { peer = p; link = n; epoch = epoch; current = from; heard = true; installed = now; last = None; setup = None }
 
   abbrev said : Installed
   said = record { peer = p; link = n; pair = from; build = Fresh; initiator = true; lease = l }

@@ -1,10 +1,9 @@
 -- A msg2, by what its leg and the holder of its peer are.
-use Rattle.std.specs.Prelude.{◌≡◌, Bool, true, false, ◌||◌, [], ◌∷◌, ℕ, ◌+◌, ◌≤◌, ◌<◌, eqb, if◌then◌else◌}
+use Rattle.std.specs.Prelude.{◌≡◌, Bool, true, false, ◌||◌, [], ◌∷◌, ℕ, ◌+◌, ◌≤◌, ◌<◌, eqb, if◌then◌else◌, None, Some}
 use Rattle.std.proofs.Common.{sym, ◌∙◌, arith, eq-eqb, ne_eqb}
 use Rattle.std.proofs.Math.Path.{ap, subst}
-use Rattle.std.proofs.Math.Option.{none, some}
 use Rattle.std.proofs.Math.ListN.{length}
-use Rattle.rules.specs.Base.{is, Bytes}
+use Rattle.rules.specs.Base.{Bytes}
 use Rattle.rules.specs.Std.{before}
 use Rattle.rules.specs.Data.{Pair, Leg, Held, Table, Why, Promote, Replace, Keep, Reset, Step}
 use Rattle.rules.specs.Legs.{on_link, answered, answers}
@@ -15,7 +14,7 @@ use Rattle.lib_laws.specs.Splice.{Wrote}
 use Rattle.lib_laws.specs.Scan.{scan}
 use Rattle.lib_laws.specs.Place.{find_at, find_nowhere}
 use Rattle.legs.specs.View.{no_leg}
-use Rattle.legs.specs.At.{there, absent, no_answer, named_peer}
+use Rattle.legs.specs.At.{there, absent, no_answer}
 use Rattle.held.specs.View.{no_held}
 use Rattle.output_record.specs.Write.{puts_one}
 use Rattle.table_layout.specs.View.{view_table, FitTable, nth_leg, nth_held}
@@ -51,7 +50,7 @@ module _ (now : ℕ) (p : Bytes) (h : Held) (t : Bytes) {o : Bytes} {at : ℕ} {
   unfolding removed
   same_leg i = ap (λ (x : Table). nth_leg x i) d.table.shows
 
-  pub gone_room : Sound (view_table t) → held_at p (view_table t) ≡ some h → length (view_table t₁).held < 32
+  pub gone_room : Sound (view_table t) → held_at p (view_table t) ≡ Some h → length (view_table t₁).held < 32
   unfolding removed
   gone_room s e =
       subst (λ (x : Table). length x.held < 32) (sym d.table.shows) (omega (arith, owners s, links_most s, length_less (named p) (view_table t).held h e))
@@ -93,13 +92,6 @@ module _ (p : Bytes) (g : Leg) (x : Table) {o : Bytes} {at : ℕ} where
     kept_did w = did_then (ends g x) (writes (Reset p Keep ∷ [])) d (record { table = told_same d.table.fit; puts = puts_one (Reset p Keep) w })
 
 -- ---- the holder moves, or the leg ends
-module _ (p : Bytes) (h : Held) (x : Table) where
-  pub moves_own : {a : Bool} → a ≡ own h x → a ≡ true → true ≡ moves p h x
-  moves_own e q = sym (ap (λ (b : Bool). b || before x.me p) (sym e ∙ q))
-
-  pub moves_first : {a b : Bool} {me : Bytes} → a ≡ own h x → a ≡ false → me ≡ x.me → b ≡ before me p → b ≡ moves p h x
-  moves_first e q m v = v ∙ ap (λ (k : Bytes). before k p) m ∙ sym (ap (λ (b : Bool). b || before x.me p) (sym e ∙ q))
-
 module _ (p : Bytes) (g : Leg) (h : Held) (from : Pair) (x : Table) {a : Bool} (e : a ≡ moves p h x) where
   pub met_moves : a ≡ true → met p g h from x ≡ moveto p g h from x
   unfolding met
@@ -111,36 +103,36 @@ module _ (p : Bytes) (g : Leg) (h : Held) (from : Pair) (x : Table) {a : Bool} (
 
 -- ---- what `msg2` is, by the leg on the link
 module _ (now n epoch : ℕ) (from : Pair) (x : Table) where
-  msg2_none : leg_at n x ≡ none → msg2 now n epoch from x ≡ still x
+  msg2_none : leg_at n x ≡ None → msg2 now n epoch from x ≡ still x
   unfolding msg2
   msg2_none e = rw e
 
-  module _ (g : Leg) (e : leg_at n x ≡ some g) where
+  module _ (g : Leg) (e : leg_at n x ≡ Some g) where
     msg2_answer : answers g ≡ true → msg2 now n epoch from x ≡ still x
     unfolding msg2
     msg2_answer a = rw (e, there no_answer (answered g.kind) a)
 
     module _ (a : answers g ≡ false) where
-      msg2_nameless : is g.peer ≡ false → msg2 now n epoch from x ≡ still x
+      msg2_nameless : g.peer ≡ None → msg2 now n epoch from x ≡ still x
       unfolding msg2
-      msg2_nameless f = rw (e, absent (answered g.kind) a, absent g.peer f)
+      msg2_nameless f = rw (e, absent (answered g.kind) a, f)
 
-      module _ (p : Bytes) (f : g.peer ≡ some p) where
-        msg2_new : held_at p x ≡ none → msg2 now n epoch from x ≡ dialed now p g epoch from Promote x
+      module _ (p : Bytes) (f : g.peer ≡ Some p) where
+        msg2_new : held_at p x ≡ None → msg2 now n epoch from x ≡ dialed now p g epoch from Promote x
         unfolding msg2
         msg2_new q = rw (e, absent (answered g.kind) a, f, q)
 
-        msg2_other : (h : Held) → held_at p x ≡ some h → eqb h.epoch epoch ≡ false → msg2 now n epoch from x ≡ replaced now p g h epoch from x
+        msg2_other : (h : Held) → held_at p x ≡ Some h → eqb h.epoch epoch ≡ false → msg2 now n epoch from x ≡ replaced now p g h epoch from x
         unfolding msg2 replaced
         msg2_other h q w = rw (e, absent (answered g.kind) a, f, q, w)
 
-        msg2_same : (h : Held) → held_at p x ≡ some h → eqb h.epoch epoch ≡ true → msg2 now n epoch from x ≡ met p g h from x
+        msg2_same : (h : Held) → held_at p x ≡ Some h → eqb h.epoch epoch ≡ true → msg2 now n epoch from x ≡ met p g h from x
         unfolding msg2 met kept
         msg2_same h q w = rw (e, absent (answered g.kind) a, f, q, w)
 
 -- ---- by the places found
 -- a leg leaves room for a holder
-pub msg2_room : (t : Bytes) (n i : ℕ) → Sound (view_table t) → scan (on_link n) 0 (view_table t).legs ≡ some i → length (view_table t).held < 32
+pub msg2_room : (t : Bytes) (n i : ℕ) → Sound (view_table t) → scan (on_link n) 0 (view_table t).legs ≡ Some i → length (view_table t).held < 32
 msg2_room t n i s e = held_room s n (nth_leg (view_table t) i) (find_at (on_link n) (view_table t).legs i e no_leg)
 
 module _ (now n epoch : ℕ) (from : Pair) (t : Bytes) where
@@ -148,33 +140,30 @@ module _ (now n epoch : ℕ) (from : Pair) (t : Bytes) where
     nothing : msg2 now n epoch from (view_table t) ≡ still (view_table t) → Did o at t o at (msg2 now n epoch from (view_table t))
     nothing q = did_is (did_still d (space_is s q)) (sym q)
 
-    pub msg2_nowhere : scan (on_link n) 0 (view_table t).legs ≡ none → Did o at t o at (msg2 now n epoch from (view_table t))
+    pub msg2_nowhere : scan (on_link n) 0 (view_table t).legs ≡ None → Did o at t o at (msg2 now n epoch from (view_table t))
     msg2_nowhere e = nothing (msg2_none now n epoch from (view_table t) (find_nowhere (on_link n) (view_table t).legs e))
 
-    module _ (i : ℕ) (e : scan (on_link n) 0 (view_table t).legs ≡ some i) where
+    module _ (i : ℕ) (e : scan (on_link n) 0 (view_table t).legs ≡ Some i) where
       pub msg2_answers : answers (nth_leg (view_table t) i) ≡ true → Did o at t o at (msg2 now n epoch from (view_table t))
       msg2_answers a = nothing (msg2_answer now n epoch from (view_table t) (nth_leg (view_table t) i) (find_at (on_link n) (view_table t).legs i e no_leg) a)
 
-      pub msg2_unnamed : answers (nth_leg (view_table t) i) ≡ false → is (nth_leg (view_table t) i).peer ≡ false → Did o at t o at (msg2 now n epoch from (view_table t))
+      pub msg2_unnamed : answers (nth_leg (view_table t) i) ≡ false → (nth_leg (view_table t) i).peer ≡ None → Did o at t o at (msg2 now n epoch from (view_table t))
       msg2_unnamed a f = nothing (msg2_nameless now n epoch from (view_table t) (nth_leg (view_table t) i) (find_at (on_link n) (view_table t).legs i e no_leg) a f)
 
-  module _ (i : ℕ) (e : scan (on_link n) 0 (view_table t).legs ≡ some i) (a : answers (nth_leg (view_table t) i) ≡ false) (f : is (nth_leg (view_table t) i).peer ≡ true) {p : Bytes} (q : p ≡ named_peer (nth_leg (view_table t) i)) where
+  module _ (i : ℕ) (e : scan (on_link n) 0 (view_table t).legs ≡ Some i) (a : answers (nth_leg (view_table t) i) ≡ false) {p : Bytes} (names : (nth_leg (view_table t) i).peer ≡ Some p) where
     abbrev g : Leg
     g = nth_leg (view_table t) i
 
     abbrev x : Table
     x = view_table t
 
-    at_leg : leg_at n x ≡ some g
+    at_leg : leg_at n x ≡ Some g
     at_leg = find_at (on_link n) x.legs i e no_leg
 
-    names : g.peer ≡ some p
-    names = there _ g.peer f ∙ ap some (sym q)
-
-    pub msg2_dials : scan (named p) 0 x.held ≡ none → msg2 now n epoch from x ≡ dialed now p g epoch from Promote x
+    pub msg2_dials : scan (named p) 0 x.held ≡ None → msg2 now n epoch from x ≡ dialed now p g epoch from Promote x
     msg2_dials v = msg2_new now n epoch from x g at_leg a p names (find_nowhere (named p) x.held v)
 
-    module _ (k : ℕ) (v : scan (named p) 0 x.held ≡ some k) {b : ℕ} (w : b ≡ (nth_held x k).epoch) where
+    module _ (k : ℕ) (v : scan (named p) 0 x.held ≡ Some k) {b : ℕ} (w : b ≡ (nth_held x k).epoch) where
       pub msg2_replaces : (b ≡ epoch → ⊥) → msg2 now n epoch from x ≡ replaced now p g (nth_held x k) epoch from x
       msg2_replaces z = msg2_other now n epoch from x g at_leg a p names (nth_held x k) (find_at (named p) x.held k v no_held) (ap (λ (m : ℕ). eqb m epoch) (sym w) ∙ ne_eqb b epoch z)
 

@@ -2,12 +2,10 @@
 #![tactic(auto)]
 
 ghost use Rattle.std.specs.Prelude.{◌≡◌, true, false, ◌<◌, length};
-ghost use Rattle.std.proofs.Math.Option.{some};
-ghost use Rattle.rules.specs.Base.{is};
 ghost use Rattle.rules.specs.Legs as leg;
 ghost use Rattle.rules.specs.Settle as rule;
 ghost use Rattle.lib_laws.specs.Scan.{scan};
-ghost use Rattle.node_addr.specs.View.{FitPair, view_pair};
+ghost use Rattle.node_addr.specs.View.{view_pair};
 ghost use Rattle.output_code.specs.Codes.{transition_of};
 ghost use Rattle.table_layout.specs.View.{view_table, FitTable, nth_leg, nth_held};
 ghost use Rattle.call_contract.specs.Did.{Space, Did};
@@ -18,14 +16,14 @@ use call_remove::leg::end_leg;
 use call_remove::peer::remove_at;
 use call_sent::install::install;
 use held::record::Held;
-use node_addr::same::node_before;
-use node_addr::{Found, LinkNo, NodeAddr, Pair, blank_digest};
+use node_addr::place::node_before;
+use node_addr::{LinkNo, NodeAddr, Pair};
 use output_closes::put_retire;
 use output_code::{Build, Transition, Why};
 use output_record::put::{put_install, put_reset};
 use table_held::{find_held, held_epoch, held_link, move_peer};
 use table_layout::head::me_of;
-use table_legs::{drop_leg, find_leg, leg_answers, leg_has_peer, leg_lease, leg_link, leg_peer};
+use table_legs::{drop_leg, find_leg, leg_answers, leg_lease, leg_link, leg_peer};
 use table_links::{hold_link, retire_link};
 use table_query::own;
 
@@ -44,25 +42,21 @@ pub fn dialed(
     requires fit_table { FitTable t.old }
     requires i_in_bounds { i < length (view_table t.old).legs }
     requires t_len_bound { length (view_table t.old).held < 32 }
-    requires fit_pair { FitPair from }
     requires space { Space out.old at (rule.dialed clock peer.0 (nth_leg (view_table t.old) i) epoch (view_pair from) (transition_of how) (view_table t.old)).outs }
     ensures { Did out.old at t.new out.new result (rule.dialed clock peer.0 (nth_leg (view_table t.old) i) epoch (view_pair from) (transition_of how) (view_table t.old)) }
 {
     let n = leg_link(t, i);
     let lease = leg_lease(t, i);
-    let setup = blank_digest();
     let a = put_install(out, at, peer, n, from, Build::Fresh, true, lease);
     let r = put_reset(out, a, peer, how);
     let h = Held {
-        peer: peer,
+        peer,
         link: n,
-        epoch: epoch,
+        epoch,
         installed: clock,
         heard: true,
-        has_last: false,
-        last: 0,
-        has_setup: false,
-        setup: setup,
+        last: None,
+        setup: None,
         current: from,
     };
     install(t, h);
@@ -82,7 +76,6 @@ pub fn moveto(
     requires fit_table { FitTable t.old }
     requires i_in_bounds { i < length (view_table t.old).legs }
     requires k_in_bounds { k < length (view_table t.old).held }
-    requires fit_pair { FitPair from }
     requires space { Space out.old at (rule.moveto peer.0 (nth_leg (view_table t.old) i) (nth_held (view_table t.old) k) (view_pair from) (view_table t.old)).outs }
     ensures { Did out.old at t.new out.new result (rule.moveto peer.0 (nth_leg (view_table t.old) i) (nth_held (view_table t.old) k) (view_pair from) (view_table t.old)) }
 {
@@ -95,7 +88,7 @@ pub fn moveto(
     hold_link(t, n, peer);
     let c = retire_link(t, old);
     move_peer(t, peer, n, from);
-    put_retire(out, b, old, c)
+    put_retire(out, b, old, &c)
 }
 
 // The k-th held peer has another epoch: it goes, and the i-th leg's dial installs it anew.
@@ -113,8 +106,7 @@ fn replace(
     requires ready { Ready t.old }
     requires i_in_bounds { i < length (view_table t.old).legs }
     requires k_in_bounds { k < length (view_table t.old).held }
-    requires t_value { rule.held_at peer.0 (view_table t.old) ≡ some (nth_held (view_table t.old) k) }
-    requires fit_pair { FitPair from }
+    requires t_value { rule.held_at peer.0 (view_table t.old) ≡ Some (nth_held (view_table t.old) k) }
     requires space { Space out.old at (replaced clock peer.0 (nth_leg (view_table t.old) i) (nth_held (view_table t.old) k) epoch (view_pair from) (view_table t.old)).outs }
     ensures { Did out.old at t.new out.new result (replaced clock peer.0 (nth_leg (view_table t.old) i) (nth_held (view_table t.old) k) epoch (view_pair from) (view_table t.old)) }
 {
@@ -139,11 +131,7 @@ fn own_or_first(t: &[u8], k: usize, peer: NodeAddr) -> bool
     requires k_in_bounds { k < length (view_table t.now).held }
     ensures { result ≡ moves peer.0 (nth_held (view_table t.now) k) (view_table t.now) }
 {
-    if own(t, k) {
-        return true;
-    }
-    let me = me_of(t);
-    node_before(me, peer)
+    own(t, k) || node_before(me_of(t), peer)
 }
 
 // The k-th held peer has the same epoch: it moves onto the i-th leg's link, or stays.
@@ -159,7 +147,6 @@ fn meet(
     requires fit_table { FitTable t.old }
     requires i_in_bounds { i < length (view_table t.old).legs }
     requires k_in_bounds { k < length (view_table t.old).held }
-    requires fit_pair { FitPair from }
     requires space { Space out.old at (met peer.0 (nth_leg (view_table t.old) i) (nth_held (view_table t.old) k) (view_pair from) (view_table t.old)).outs }
     ensures { Did out.old at t.new out.new result (met peer.0 (nth_leg (view_table t.old) i) (nth_held (view_table t.old) k) (view_pair from) (view_table t.old)) }
 {
@@ -169,27 +156,26 @@ fn meet(
     keep(t, out, at, i, peer)
 }
 
-// The i-th leg, on link n, is a dial of the peer that it names.
+// The i-th leg, on link n, is a dial of the peer.
 fn complete(
     t: &mut [u8],
     out: &mut [u8],
     at: usize,
     i: usize,
     n: LinkNo,
+    peer: NodeAddr,
     epoch: u64,
     from: Pair,
     clock: u64,
 ) -> usize
     requires ready { Ready t.old }
-    requires t_value { scan (leg.on_link n.0) 0 (view_table t.old).legs ≡ some i }
+    requires t_value { scan (leg.on_link n.0) 0 (view_table t.old).legs ≡ Some i }
     requires i_value { leg.answers (nth_leg (view_table t.old) i) ≡ false }
-    requires i_value_2 { is (nth_leg (view_table t.old) i).peer ≡ true }
-    requires fit_pair { FitPair from }
+    requires named { (nth_leg (view_table t.old) i).peer ≡ Some peer.0 }
     requires space { Space out.old at (rule.msg2 clock n.0 epoch (view_pair from) (view_table t.old)).outs }
     ensures { Did out.old at t.new out.new result (rule.msg2 clock n.0 epoch (view_pair from) (view_table t.old)) }
 {
-    let peer = leg_peer(t, i);
-    let Found::At(k) = find_held(t, peer) else {
+    let Some(k) = find_held(t, peer) else {
         return dialed(t, out, at, i, peer, epoch, from, Transition::Promote, clock);
     };
     let old = held_epoch(t, k);
@@ -210,18 +196,17 @@ pub fn msg2(
     clock: u64,
 ) -> usize
     requires ready { Ready t.old }
-    requires fit_pair { FitPair from }
     requires space { Space out.old at (rule.msg2 clock n.0 epoch (view_pair from) (view_table t.old)).outs }
     ensures { Did out.old at t.new out.new result (rule.msg2 clock n.0 epoch (view_pair from) (view_table t.old)) }
 {
-    let Found::At(i) = find_leg(t, n) else {
+    let Some(i) = find_leg(t, n) else {
         return at;
     };
     if leg_answers(t, i) {
         return at;
     }
-    if !leg_has_peer(t, i) {
+    let Some(peer) = leg_peer(t, i) else {
         return at;
-    }
-    complete(t, out, at, i, n, epoch, from, clock)
+    };
+    complete(t, out, at, i, n, peer, epoch, from, clock)
 }

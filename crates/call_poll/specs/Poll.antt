@@ -1,9 +1,8 @@
 -- The legs that poll reaps, and what it repeats: the first of them, and what is left then.
-use Rattle.std.specs.Prelude.{◌≡◌, Bool, eqb, ltb, take, drop, get_or, if◌then◌else◌}
+use Rattle.std.specs.Prelude.{◌≡◌, Bool, eqb, ltb, take, drop, get_or, if◌then◌else◌, None, Some}
 use Rattle.std.proofs.Math.Path.{refl, ap, subst}
-use Rattle.std.proofs.Common.{◌∙◌, ltb-true, ne_eqb, drop-drop, get_or-drop, length-drop}
+use Rattle.std.proofs.Common.{◌∙◌, ltb-true, ne_eqb, drop-drop, get_or-drop, length-drop, take_all}
 use Rattle.std.proofs.Math.Bool.{true, false}
-use Rattle.std.proofs.Math.Option.{none, some}
 use mathlib.Core.List.{List, [], ◌∷◌, map}
 use Prim.Native.Nat.{ℕ, suc, ◌+◌, ◌-◌, ◌≤◌, ◌<◌}
 use native.Mathlib.Omega.{arith}
@@ -21,7 +20,7 @@ use Rattle.lib_laws.specs.Shift.{all_at}
 use Rattle.lib_laws.specs.Splice.{Wrote}
 use Rattle.lib_laws.specs.Scan.{scan}
 use Rattle.lib_laws.specs.Place.{First, here, there, first_of, none_of, place_within}
-use Rattle.legs.specs.At.{Stands, resend_due, past_deadline}
+use Rattle.legs.specs.At.{resend_due, past_deadline}
 use Rattle.legs.specs.View.{no_leg}
 use Rattle.output_record.specs.Write.{Puts}
 use Rattle.table_layout.specs.View.{view_table, nth_leg}
@@ -41,12 +40,12 @@ module _ {A : Type 0} (t : A → Bool) where
   kept_none (x ∷ s) a = rw a.0 (kept_none s a.1)
 
   -- found where the count begins at k
-  first_from : (k : ℕ) (s : List A) (i : ℕ) → scan t k s ≡ some i → (k ≤ i) × First t (i - k) s
+  first_from : (k : ℕ) (s : List A) (i : ℕ) → scan t k s ≡ Some i → (k ≤ i) × First t (i - k) s
   unfolding scan
   first_from k [] i e = contra cc
   first_from k (x ∷ s) i e = go (t x) refl e (first_from (suc k) s i)
     where
-      go : (b : Bool) → t x ≡ b → (if b then some k else scan t (suc k) s) ≡ some i → (scan t (suc k) s ≡ some i → (suc k ≤ i) × First t (i - suc k) s)
+      go : (b : Bool) → t x ≡ b → (if b then Some k else scan t (suc k) s) ≡ Some i → (scan t (suc k) s ≡ Some i → (suc k ≤ i) × First t (i - suc k) s)
           → (k ≤ i) × First t (i - k) (x ∷ s)
       go true q e r =
           let y : k ≡ i = cc in
@@ -58,12 +57,12 @@ module _ {A : Type 0} (t : A → Bool) where
           let z : suc (i - suc k) ≡ i - k = omega arith in
           (omega arith, subst (λ (j : ℕ). First t j (x ∷ s)) z (there q l.1))
 
-  none_from : (k : ℕ) (s : List A) → scan t k s ≡ none → All (λ a. t a ≡ false) s
+  none_from : (k : ℕ) (s : List A) → scan t k s ≡ None → All (λ a. t a ≡ false) s
   unfolding scan
   none_from k [] e = tt
   none_from k (x ∷ s) e = go (t x) refl e (none_from (suc k) s)
     where
-      go : (b : Bool) → t x ≡ b → (if b then some k else scan t (suc k) s) ≡ none → (scan t (suc k) s ≡ none → All (λ a. t a ≡ false) s) → All (λ a. t a ≡ false) (x ∷ s)
+      go : (b : Bool) → t x ≡ b → (if b then Some k else scan t (suc k) s) ≡ None → (scan t (suc k) s ≡ None → All (λ a. t a ≡ false) s) → All (λ a. t a ≡ false) (x ∷ s)
       go true q e r = contra cc
       go false q e r = (q, r e)
 
@@ -72,7 +71,7 @@ module _ {A : Type 0} (t : A → Bool) where
   within_first (there e f) = let h = within_first f in omega arith
 
   -- what passes from a place on, by the first of these
-  pub kept_from : (k : ℕ) (s : List A) (i : ℕ) (d : A) → scan t k (drop k s) ≡ some i → (k ≤ i) × (i < length s) × (keep t (drop k s) ≡ get_or s i d ∷ keep t (drop (i + 1) s))
+  pub kept_from : (k : ℕ) (s : List A) (i : ℕ) (d : A) → scan t k (drop k s) ≡ Some i → (k ≤ i) × (i < length s) × (keep t (drop k s) ≡ get_or s i d ∷ keep t (drop (i + 1) s))
   kept_from k s i d e =
       let f = first_from k (drop k s) i e in
       let l : k ≤ i = f.0 in
@@ -91,7 +90,7 @@ resending_start {clock = clock} {s} a = record { within = omega arith; writing =
 
 module _ {xs : Bytes} {at clock : ℕ} {s : List Leg} {ys : Bytes} {e from : ℕ} (a : Resending xs at clock s ys e from) where
   -- the next that is due
-  module _ {i : ℕ} (q : scan (resend_due clock) from (drop from s) ≡ some i) where
+  module _ {i : ℕ} (q : scan (resend_due clock) from (drop from s) ≡ Some i) where
     pub resend_later : from ≤ i
     resend_later = (kept_from (resend_due clock) from s i no_leg q).0
 
@@ -102,17 +101,17 @@ module _ {xs : Bytes} {at clock : ℕ} {s : List Leg} {ys : Bytes} {e from : ℕ
     unfolding resends
     resend_next = ap (map (λ g. Resend g.link g.msg1)) (kept_from (resend_due clock) from s i no_leg q).2
 
-    module _ {k n : ℕ} {t : Bytes} (z : Stands (get_or s i no_leg).msg1 k n t) where
-      pub resend_room : e + (14 + n) ≤ length ys
-      resend_room = rw z.size at (writing_room a.writing (Resend (get_or s i no_leg).link (get_or s i no_leg).msg1) (resends clock (drop (i + 1) s)) resend_next)
+    module _ {m : Bytes} (z : m ≡ (get_or s i no_leg).msg1) where
+      pub resend_room : e + (14 + length m) ≤ length ys
+      resend_room = rw (← z) at (writing_room a.writing (Resend (get_or s i no_leg).link (get_or s i no_leg).msg1) (resends clock (drop (i + 1) s)) resend_next)
 
-      pub resend_turn : {l j : ℕ} {zs : Bytes} {r : ℕ} → l ≡ (get_or s i no_leg).link → Wrote ys e j (output_record (Resend l (take n (drop k t)))) zs r → Resending xs at clock s zs r (i + 1)
+      pub resend_turn : {l j : ℕ} {zs : Bytes} {r : ℕ} → l ≡ (get_or s i no_leg).link → Wrote ys e j (output_record (Resend l (take (length m) (drop 0 m)))) zs r → Resending xs at clock s zs r (i + 1)
       resend_turn {l} {j} {zs} {r} p w = record {
         within = omega (arith, resend_within);
-        writing = writing_one a.writing (Resend (get_or s i no_leg).link (get_or s i no_leg).msg1) (resends clock (drop (i + 1) s)) resend_next (rw (p, z.is) at w);
+        writing = writing_one a.writing (Resend (get_or s i no_leg).link (get_or s i no_leg).msg1) (resends clock (drop (i + 1) s)) resend_next (rw (p, take_all (length m) m (omega arith), z) at w);
       }
 
-  pub resend_end : scan (resend_due clock) from (drop from s) ≡ none → Puts xs at (resends clock s) ys e
+  pub resend_end : scan (resend_due clock) from (drop from s) ≡ None → Puts xs at (resends clock s) ys e
   unfolding resends
   resend_end q = writing_end a.writing (ap (map (λ g. Resend g.link g.msg1)) (kept_none (resend_due clock) (drop from s) (none_from (resend_due clock) from (drop from s) q)))
 
@@ -120,7 +119,7 @@ module _ {xs : Bytes} {at clock : ℕ} {s : List Leg} {ys : Bytes} {e from : ℕ
 module _ (clock : ℕ) (d : Leg) where
   -- a leg before the first that is past has another link
   reaped : {i : ℕ} {s : List Leg} → Ascending earlier_leg s → First (past_deadline clock) i s
-      → (find (on_link (get_or s i d).link) s ≡ some (get_or s i d)) × (keep (past_deadline clock) s ≡ get_or s i d ∷ keep (past_deadline clock) (without (on_link (get_or s i d).link) s))
+      → (find (on_link (get_or s i d).link) s ≡ Some (get_or s i d)) × (keep (past_deadline clock) s ≡ get_or s i d ∷ keep (past_deadline clock) (without (on_link (get_or s i d).link) s))
   reaped {s = []} a f = elim f [ ]
   reaped {s = g ∷ s} a (here e) = (rw (eqb_same g.link), rw (e, eqb_same g.link))
   reaped {s = h ∷ s} a (there {i = i} e f) =
@@ -134,12 +133,12 @@ module _ (clock : ℕ) (x : Table) where
   abbrev pub reaps : Step
   reaps = abandons (overdue clock x.legs) x
 
-  pub reaps_none : scan (past_deadline clock) 0 x.legs ≡ none → reaps ≡ still x
+  pub reaps_none : scan (past_deadline clock) 0 x.legs ≡ None → reaps ≡ still x
   unfolding overdue abandons
   reaps_none e = rw (kept_none (past_deadline clock) x.legs (none_of (past_deadline clock) x.legs e))
 
-  module _ {i : ℕ} (o : Ascending earlier_leg x.legs) (e : scan (past_deadline clock) 0 x.legs ≡ some i) where
-    pub reaped_leg : leg_at (nth_leg x i).link x ≡ some (nth_leg x i)
+  module _ {i : ℕ} (o : Ascending earlier_leg x.legs) (e : scan (past_deadline clock) 0 x.legs ≡ Some i) where
+    pub reaped_leg : leg_at (nth_leg x i).link x ≡ Some (nth_leg x i)
     reaped_leg = (reaped clock no_leg o (first_of (past_deadline clock) x.legs i e)).0
 
     pub reaps_first : reaps ≡ ends (nth_leg x i) x ▸ (λ u. abandons (overdue clock u.legs) u)
@@ -148,11 +147,11 @@ module _ (clock : ℕ) (x : Table) where
 
 -- ---- the loop that reaps
 module _ (clock : ℕ) {xs : Bytes} {at : ℕ} {whole : Step} {t ys : Bytes} {e : ℕ} (a : Doing xs at whole t ys e (reaps clock (view_table t))) where
-  pub reap_end : scan (past_deadline clock) 0 (view_table t).legs ≡ none → Did xs at t ys e whole
+  pub reap_end : scan (past_deadline clock) 0 (view_table t).legs ≡ None → Did xs at t ys e whole
   reap_end q = doing_end a (reaps_none clock (view_table t) q)
 
-  module _ {i : ℕ} (q : scan (past_deadline clock) 0 (view_table t).legs ≡ some i) where
-    found_leg : leg_at (nth_leg (view_table t) i).link (view_table t) ≡ some (nth_leg (view_table t) i)
+  module _ {i : ℕ} (q : scan (past_deadline clock) 0 (view_table t).legs ≡ Some i) where
+    found_leg : leg_at (nth_leg (view_table t) i).link (view_table t) ≡ Some (nth_leg (view_table t) i)
     found_leg = reaped_leg clock (view_table t) a.ready.sound.shaped.ordered.legs q
 
     rest_then : reaps clock (view_table t) ≡ ends (nth_leg (view_table t) i) (view_table t) ▸ (λ u. reaps clock u)

@@ -7,7 +7,6 @@ ghost use Rattle.call_contract.specs.Did.{Space, Did};
 ghost use Rattle.call_contract.specs.Sound.{Ready};
 
 use call_remove::leg::end_leg;
-use node_addr::Found;
 use output_record::put::put_resend;
 use table_legs::{find_overdue, find_resend, leg_link, leg_msg1};
 
@@ -19,15 +18,12 @@ pub fn resend_due(t: &[u8], out: &mut [u8], at: usize, clock: u64) -> usize
 {
     let mut e = at;
     let mut from = 0;
-    loop {
-        let Found::At(i) = find_resend(t, from, clock) else {
-            return e;
-        };
-        let n = leg_link(t, i);
-        let run = leg_msg1(t, i);
-        e = put_resend(out, e, n, t, run.at, run.len);
+    while let Some(i) = find_resend(t, from, clock) {
+        let m = leg_msg1(t, i);
+        e = put_resend(out, e, leg_link(t, i), m, 0, m.len());
         from = i + 1;
     }
+    e
 }
 
 // Each leg past its deadline ends.
@@ -37,12 +33,10 @@ pub fn reap(t: &mut [u8], out: &mut [u8], at: usize, clock: u64) -> usize
     ensures { Did out.old at t.new out.new result (settle.abandons (rule.overdue clock (view_table t.old).legs) (view_table t.old)) }
 {
     let mut e = at;
-    loop {
-        let Found::At(i) = find_overdue(t, clock) else {
-            return e;
-        };
+    while let Some(i) = find_overdue(t, clock) {
         e = end_leg(t, out, e, i);
     }
+    e
 }
 
 pub fn poll(t: &mut [u8], out: &mut [u8], at: usize, clock: u64) -> usize

@@ -15,6 +15,5 @@ pub fn wake(t: &[u8], out: &mut [u8], at: usize) -> usize
     requires space { Space out.old at (Output.Wake (next_wake (view_table t.now).legs) ∷ []) }
     ensures { Puts out.old at (Output.Wake (next_wake (view_table t.now).legs) ∷ []) out.new result }
 {
-    let w = next_wake(t);
-    put_wake(out, at, w.some, w.at)
+    put_wake(out, at, next_wake(t))
 }

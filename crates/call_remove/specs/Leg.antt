@@ -1,8 +1,7 @@
 -- A leg that ends: room for what is written of it, and what the table then shows.
-use Rattle.std.specs.Prelude.{◌≡◌, ℕ, ◌+◌, ◌≤◌}
+use Rattle.std.specs.Prelude.{◌≡◌, ℕ, ◌+◌, ◌≤◌, None, Option, Some}
 use Rattle.std.proofs.Common.{sym, ap, ◌∙◌}
 use Rattle.std.proofs.Math.Path.{subst}
-use Rattle.std.proofs.Math.Option.{Option, none, some}
 use mathlib.Core.List.{List}
 use Rattle.std.proofs.Math.ListN.{length}
 use Rattle.rules.specs.Base.{Bytes, option}
@@ -57,10 +56,10 @@ module _ (x : Table) (g : Leg) where
         }
 
 -- ---- the leg on link n ends, if there is one
-pub abandon_at : (n : ℕ) (x : Table) (i : ℕ) → scan (on_link n) 0 x.legs ≡ some i → abandon n x ≡ ends (nth_leg x i) x
+pub abandon_at : (n : ℕ) (x : Table) (i : ℕ) → scan (on_link n) 0 x.legs ≡ Some i → abandon n x ≡ ends (nth_leg x i) x
 unfolding abandon
 abandon_at n x i e = ap (λ (o : Option Leg). option o (still x) λ g. ends g x) (find_at (on_link n) x.legs i e no_leg)
 
-pub abandon_none : (n : ℕ) (x : Table) → scan (on_link n) 0 x.legs ≡ none → abandon n x ≡ still x
+pub abandon_none : (n : ℕ) (x : Table) → scan (on_link n) 0 x.legs ≡ None → abandon n x ≡ still x
 unfolding abandon
 abandon_none n x e = ap (λ (o : Option Leg). option o (still x) λ g. ends g x) (find_nowhere (on_link n) x.legs e)

@@ -1,11 +1,10 @@
 -- A holder that goes: what is remembered of it, room for what is written of it, and what the table then shows.
-use Rattle.std.specs.Prelude.{◌≡◌, refl, Bool, true, false, ℕ, ◌+◌, ◌≤◌, if◌then◌else◌}
+use Rattle.std.specs.Prelude.{◌≡◌, Bool, true, false, ℕ, ◌+◌, ◌≤◌, if◌then◌else◌, None, Option, Some}
 use Rattle.std.proofs.Common.{sym, ◌∙◌}
 use Rattle.std.proofs.Math.Path.{ap, subst}
-use Rattle.std.proofs.Math.Option.{Option, none, some}
 use mathlib.Core.List.{List, [], ◌∷◌}
 use Rattle.std.proofs.Math.ListN.{length}
-use Rattle.rules.specs.Base.{option, is, Bytes, All, without}
+use Rattle.rules.specs.Base.{option, Bytes, All, without}
 use Rattle.rules.specs.Std.{Ascending}
 use Rattle.rules.specs.Time.{Params}
 use Rattle.rules.specs.Data.{Pair, Held, Table, Why, Output, Step, Retire, Retry}
@@ -20,9 +19,9 @@ use Rattle.lib_laws.specs.Place.{find_at, find_nowhere}
 use Rattle.lib_laws.specs.Splice.{Wrote}
 use Rattle.params.specs.declared.Params as params
 use Rattle.params.specs.View.{view_params}
-use Rattle.gates_types.specs.View.{optional, FitParams, Within}
+use Rattle.gates_types.specs.View.{FitParams, Within}
 use Rattle.gates.specs.Order.{Room}
-use Rattle.held.specs.View.{no_held, setup_of}
+use Rattle.held.specs.View.{no_held}
 use Rattle.output_record.specs.Write.{Puts, puts_one, puts_more}
 use Rattle.table_layout.specs.View.{view_table, FitTable, Told, nth_held}
 use Rattle.table_layout.proofs.Told.{told_same, told_is, told_then, fit_params}
@@ -32,15 +31,11 @@ use Rattle.call_contract.specs.Sound.{Ready, gates_ordered, gates_within, held_m
 -- ---- what is remembered
 
 -- the peer that was asked for is the holder's
-peer_is : (p : Bytes) (h : Held) (x : Table) → held_at p x ≡ some h → p ≡ h.peer
+peer_is : (p : Bytes) (h : Held) (x : Table) → held_at p x ≡ Some h → p ≡ h.peer
 peer_is p h x e = same_sound p h.peer (find_test (named p) x.held h e)
 
-setup_is : (o : Option Bytes) (z : Bytes) → optional (is o) (option o z λ a. a) ≡ o
-setup_is none z = refl
-setup_is (some a) z = refl
-
 -- a silence may be counted of a peer that is held
-pub part_ready : {t : Bytes} (c : params.Params) (p : Bytes) (h : Held) → Ready t → view_params c ≡ (view_table t).params → held_at p (view_table t) ≡ some h
+pub part_ready : {t : Bytes} (c : params.Params) (p : Bytes) (h : Held) → Ready t → view_params c ≡ (view_table t).params → held_at p (view_table t) ≡ Some h
     → FitTable t
     × (Ascending earlier_memory (view_table t).gates
     × (All (Within (view_params c)) (view_table t).gates × (FitParams c × Room p (view_table t).gates (length (view_table t).gates))))
@@ -59,24 +54,21 @@ module _ (clock : ℕ) (h : Held) where
   part_heard {t} f q w =
       let x : Table = view_table t in
       told_is (told_same f)
-      (ap (λ (b : Bool). with_gates (if b then x.gates else store (ended x.params clock (some h.epoch) h.setup (memory h.peer x.gates)) x.gates) x) (sym w ∙ q))
+      (ap (λ (b : Bool). with_gates (if b then x.gates else store (ended x.params clock (Some h.epoch) h.setup (memory h.peer x.gates)) x.gates) x) (sym w ∙ q))
 
   -- unheard: a silence is counted
-  pub part_unheard : (x : Table) (p : Bytes) {b : Bool} {n : ℕ} {a : Bool} {s : Bytes} {c : Params} {t : Bytes} → held_at p x ≡ some h → b ≡ h.heard → b ≡ false
-      → n ≡ h.epoch → a ≡ is h.setup → s ≡ setup_of h → c ≡ x.params
-      → Told t (with_gates (store (ended c clock (some n) (optional a s) (memory p x.gates)) x.gates) x)
+  pub part_unheard : (x : Table) (p : Bytes) {b : Bool} {n : ℕ} {s : Option Bytes} {c : Params} {t : Bytes} → held_at p x ≡ Some h → b ≡ h.heard → b ≡ false
+      → n ≡ h.epoch → s ≡ h.setup → c ≡ x.params
+      → Told t (with_gates (store (ended c clock (Some n) s (memory p x.gates)) x.gates) x)
       → Told t (with_gates (parted clock h x) x)
   unfolding parted
-  part_unheard x p {b} {n} {a} {s} {c} e q w l m d g u =
+  part_unheard x p {b} {n} {s} {c} e q w l m g u =
       told_is u
-      (ap (λ (k : Params). with_gates (store (ended k clock (some n) (optional a s) (memory p x.gates)) x.gates) x) g
-      ∙ ap (λ (k : ℕ). with_gates (store (ended x.params clock (some k) (optional a s) (memory p x.gates)) x.gates) x) l
-      ∙ ap (λ (k : Option Bytes). with_gates (store (ended x.params clock (some h.epoch) k (memory p x.gates)) x.gates) x) own
-      ∙ ap (λ (k : Bytes). with_gates (store (ended x.params clock (some h.epoch) h.setup (memory k x.gates)) x.gates) x) (peer_is p h x e)
-      ∙ ap (λ (k : Bool). with_gates (if k then x.gates else store (ended x.params clock (some h.epoch) h.setup (memory h.peer x.gates)) x.gates) x) (sym w ∙ q))
-    where
-      own : optional a s ≡ h.setup
-      own = ap (λ (k : Bool). optional k s) m ∙ ap (λ (k : Bytes). optional (is h.setup) k) d ∙ setup_is h.setup _
+      (ap (λ (k : Params). with_gates (store (ended k clock (Some n) s (memory p x.gates)) x.gates) x) g
+      ∙ ap (λ (k : ℕ). with_gates (store (ended x.params clock (Some k) s (memory p x.gates)) x.gates) x) l
+      ∙ ap (λ (k : Option Bytes). with_gates (store (ended x.params clock (Some h.epoch) k (memory p x.gates)) x.gates) x) m
+      ∙ ap (λ (k : Bytes). with_gates (store (ended x.params clock (Some h.epoch) h.setup (memory k x.gates)) x.gates) x) (peer_is p h x e)
+      ∙ ap (λ (k : Bool). with_gates (if k then x.gates else store (ended x.params clock (Some h.epoch) h.setup (memory h.peer x.gates)) x.gates) x) (sym w ∙ q))
 
 -- ---- its link
 
@@ -166,10 +158,10 @@ module _ (clock : ℕ) (p : Bytes) (why : Why) (h : Held) (x : Table) where
 
 -- ---- the peer goes, if it is held
 module _ (clock : ℕ) (p : Bytes) (why : Why) (x : Table) where
-  pub remove_at : (i : ℕ) → scan (named p) 0 x.held ≡ some i → remove clock p why x ≡ removed clock p why (nth_held x i) x
+  pub remove_at : (i : ℕ) → scan (named p) 0 x.held ≡ Some i → remove clock p why x ≡ removed clock p why (nth_held x i) x
   unfolding remove
   remove_at i e = ap (λ (o : Option Held). option o (still x) λ h. removed clock p why h x) (find_at (named p) x.held i e no_held)
 
-  pub remove_none : scan (named p) 0 x.held ≡ none → remove clock p why x ≡ still x
+  pub remove_none : scan (named p) 0 x.held ≡ None → remove clock p why x ≡ still x
   unfolding remove
   remove_none e = ap (λ (o : Option Held). option o (still x) λ h. removed clock p why h x) (find_nowhere (named p) x.held e)

@@ -4,7 +4,7 @@ ghost use Rattle.rules.specs.Settle as rule;
 ghost use Rattle.table_layout.specs.View.{view_table, FitTable, nth_leg};
 ghost use Rattle.call_contract.specs.Did.{Space, Did};
 
-use node_addr::{Found, LinkNo};
+use node_addr::LinkNo;
 use output_closes::put_retire;
 use output_record::put::put_free;
 use table_legs::{drop_leg, find_leg, leg_lease, leg_link};
@@ -22,7 +22,7 @@ pub fn end_leg(t: &mut [u8], out: &mut [u8], at: usize, i: usize) -> usize
     let a = put_free(out, at, lease);
     drop_leg(t, n);
     let c = retire_link(t, n);
-    put_retire(out, a, n, c)
+    put_retire(out, a, n, &c)
 }
 
 // The leg on a link ends, if there is one.
@@ -32,7 +32,7 @@ pub fn abandon(t: &mut [u8], out: &mut [u8], at: usize, n: LinkNo) -> usize
     ensures { Did out.old at t.new out.new result (rule.abandon n.0 (view_table t.old)) }
 {
     match find_leg(t, n) {
-        Found::At(i) => end_leg(t, out, at, i),
-        Found::Nothing => at,
+        Some(i) => end_leg(t, out, at, i),
+        None => at,
     }
 }

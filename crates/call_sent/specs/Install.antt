@@ -1,7 +1,6 @@
 -- A leg becomes a holder: what the table shows then, and the outputs that say so.
-use Rattle.std.specs.Prelude.{◌≡◌, ℕ, ◌+◌, ◌≤◌, ◌<◌, length, set}
+use Rattle.std.specs.Prelude.{◌≡◌, ℕ, ◌+◌, ◌≤◌, ◌<◌, length, set, None, Some}
 use Rattle.std.proofs.Common.{sym, ap, subst, arith}
-use Rattle.std.proofs.Math.Option.{none, some}
 use mathlib.Core.List.{List, ◌∷◌}
 use Rattle.rules.specs.Base.{Bytes}
 use Rattle.rules.specs.Std.{insert}
@@ -41,11 +40,11 @@ module _ (t : Bytes) (h : Held) {a b : Bytes} (d : Told a (drop_leg h.link (view
 
 -- ---- an answer that could not be sent
 module _ (t : Bytes) (n : ℕ) where
-  pub unsent_at : {u : Bytes} (i : ℕ) → scan (on_link n) 0 (view_table t).legs ≡ some i → Told u (with_legs (set (view_table t).legs i (mark_unsent (nth_leg (view_table t) i))) (view_table t))
+  pub unsent_at : {u : Bytes} (i : ℕ) → scan (on_link n) 0 (view_table t).legs ≡ Some i → Told u (with_legs (set (view_table t).legs i (mark_unsent (nth_leg (view_table t) i))) (view_table t))
       → Told u (unsent n (view_table t)).table
   unfolding unsent
   unsent_at i e a = told_is a (ap (λ (s : List Leg). with_legs s (view_table t)) (sym (alter_at (on_link n) (view_table t).legs i e mark_unsent no_leg)))
 
-  pub unsent_none : scan (on_link n) 0 (view_table t).legs ≡ none → FitTable t → Told t (unsent n (view_table t)).table
+  pub unsent_none : scan (on_link n) 0 (view_table t).legs ≡ None → FitTable t → Told t (unsent n (view_table t)).table
   unfolding unsent
   unsent_none e f = told_is (told_same f) (ap (λ (s : List Leg). with_legs s (view_table t)) (sym (alter_nowhere (on_link n) (view_table t).legs e mark_unsent)))

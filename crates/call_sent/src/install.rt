@@ -1,6 +1,6 @@
 // A leg becomes a holder.
 ghost use Rattle.std.specs.Prelude.{◌<◌, length};
-ghost use Rattle.held.specs.View.{FitRec, view_rec};
+ghost use Rattle.held.specs.View.{view_rec};
 ghost use Rattle.table_layout.specs.View.{view_table, FitTable, Told};
 ghost use Rattle.call_sent.specs.Install.{seated};
 
@@ -12,7 +12,6 @@ use table_links::hold_link;
 // The leg on the holder's link goes, the link is the peer's, and the peer is held.
 pub fn install(t: &mut [u8], h: Held)
     requires fit_table { FitTable t.old }
-    requires fit_rec { FitRec h }
     requires t_len_bound { length (view_table t.old).held < 32 }
     ensures { Told t.new (seated (view_rec h) (view_table t.old)) }
 {

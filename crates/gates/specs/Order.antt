@@ -1,9 +1,8 @@
 -- A memory found, stored and cleared among memories in the order of their peers.
-use Rattle.std.specs.Prelude.{◌≡◌, Bool, not, ◌&&◌, ℕ, zero, suc, ◌≤◌, ◌<◌, eqb, ltb, length, get_or, if◌then◌else◌}
+use Rattle.std.specs.Prelude.{◌≡◌, Bool, not, ◌&&◌, ℕ, zero, suc, ◌≤◌, ◌<◌, eqb, ltb, length, get_or, if◌then◌else◌, None, Option, Some}
 use Rattle.std.proofs.Math.Path.{refl, sym, ap}
 use Rattle.std.proofs.Common.{◌∙◌, subst, arith, eqb-true, eq-eqb, ne_eqb, ltb-true, le-ltb}
 use Rattle.std.proofs.Math.Bool.{true, false}
-use Rattle.std.proofs.Math.Option.{Option, none, some}
 use mathlib.Core.List.{List, [], ◌∷◌}
 use Rattle.std.proofs.lemmas.Bool.{eqb-false}
 use Rattle.std.proofs.Math.ListN.{set}
@@ -52,16 +51,16 @@ module _ (m : Memory) where
   put_place (there {x = x} {s} {i} e f) a =
       rw (e, before_not x.peer m.peer (first_place f x a.0)) (ap (λ (u : List Memory). x ∷ u) (put_place f a.1))
 
-  pub stored_at : {p : Bytes} (g : List Memory) (i : ℕ) → m.peer ≡ p → Ascending earlier_memory g → scan (memory_of p) 0 g ≡ some i
+  pub stored_at : {p : Bytes} (g : List Memory) (i : ℕ) → m.peer ≡ p → Ascending earlier_memory g → scan (memory_of p) 0 g ≡ Some i
       → (if remembers m then set g i m else erase i g) ≡ store m g
   unfolding store
   stored_at g i z a e = go (remembers m) (rw (← z) at e)
     where
-      go : (b : Bool) → scan t 0 g ≡ some i → (if b then set g i m else erase i g) ≡ (if b then std.insert earlier_memory m (without t g) else without t g)
+      go : (b : Bool) → scan t 0 g ≡ Some i → (if b then set g i m else erase i g) ≡ (if b then std.insert earlier_memory m (without t g) else without t g)
       go true e = sym (put_place (first_of t g i e) a)
       go false e = sym (without_at t g i e)
 
-  pub stored_new : {p : Bytes} (g : List Memory) → m.peer ≡ p → scan (memory_of p) 0 g ≡ none → (if remembers m then std.insert earlier_memory m g else g) ≡ store m g
+  pub stored_new : {p : Bytes} (g : List Memory) → m.peer ≡ p → scan (memory_of p) 0 g ≡ None → (if remembers m then std.insert earlier_memory m g else g) ≡ store m g
   unfolding store
   stored_new g z e = ap (λ (r : List Memory). if remembers m then std.insert earlier_memory m r else r) (sym (without_nowhere t g (rw (← z) at e)))
 
@@ -70,16 +69,16 @@ module _ (m : Memory) where
   inserted_here g {r} {n} k e = go (scan (after m.peer) 0 g) refl k.is
     where
       go : (o : Option ℕ) → scan (after m.peer) 0 g ≡ o → r ≡ option o n (λ i. i) → insert r m g ≡ std.insert earlier_memory m g
-      go none q z = insert_end r m g (z ∙ e) ∙ sym (insert_last earlier_memory m g q)
-      go (some i) q z = rw z (sym (insert_at earlier_memory m g i q))
+      go None q z = insert_end r m g (z ∙ e) ∙ sym (insert_last earlier_memory m g q)
+      go (Some i) q z = rw z (sym (insert_at earlier_memory m g i q))
 
 -- ---- the memory of a peer
 module _ (p : Bytes) (g : List Memory) where
-  pub memory_at : (i : ℕ) (d : Memory) → scan (memory_of p) 0 g ≡ some i → get_or g i d ≡ memory p g
+  pub memory_at : (i : ℕ) (d : Memory) → scan (memory_of p) 0 g ≡ Some i → get_or g i d ≡ memory p g
   unfolding memory
   memory_at i d e = sym (rw (find_at (memory_of p) g i e d))
 
-  pub memory_none : scan (memory_of p) 0 g ≡ none → blank p ≡ memory p g
+  pub memory_none : scan (memory_of p) 0 g ≡ None → blank p ≡ memory p g
   unfolding memory
   memory_none e = sym (rw (find_nowhere (memory_of p) g e))
 
@@ -87,12 +86,12 @@ module _ (p : Bytes) (g : List Memory) where
   memory_peer = go (scan (memory_of p) 0 g) refl
     where
       go : (o : Option ℕ) → scan (memory_of p) 0 g ≡ o → (memory p g).peer ≡ p
-      go none e = ap (λ (m : Memory). m.peer) (sym (memory_none e))
-      go (some i) e =
+      go None e = ap (λ (m : Memory). m.peer) (sym (memory_none e))
+      go (Some i) e =
           ap (λ (m : Memory). m.peer) (sym (memory_at i (blank p) e)) ∙ sym (same_true p (get_or g i (blank p)).peer (place_passes (memory_of p) g i e (blank p)))
 
 -- a memory that remembers nothing is nowhere
-pub store_blank : (p : Bytes) (g : List Memory) → scan (memory_of p) 0 g ≡ none → g ≡ store (clear (memory p g)) g
+pub store_blank : (p : Bytes) (g : List Memory) → scan (memory_of p) 0 g ≡ None → g ≡ store (clear (memory p g)) g
 unfolding clear
 store_blank p g e = stored_new (clear (blank p)) g refl e ∙ ap (λ (m : Memory). store (clear m) g) (memory_none p g e)
 
@@ -112,20 +111,20 @@ kept_still g i d e = go (get_or g i d) refl (get_or g i d).stamp (get_or g i d).
   where
     go : (m : Memory) → m ≡ get_or g i d → (s : Option ℕ) (r : List Replay) (x : Option Silence) → m.stamp ≡ s → m.replays ≡ r → m.silence ≡ x → is s && empty r && not (is x) ≡ true
         → g ≡ (if remembers (clear m) then set g i (clear m) else erase i g)
-    go m q (some s) [] none a b c e =
+    go m q (Some s) [] None a b c e =
         let z : clear m ≡ m = rw (← b, ← c) in
         let y : remembers (clear m) ≡ true = rw a in
         sym (ap (λ (x : Memory). set g i x) (z ∙ q) ∙ set_same g i d) ∙ ap (λ (k : Bool). if k then set g i (clear m) else erase i g) (sym y)
-    go m q none r x a b c e = cc
-    go m q (some s) (y ∷ r) x a b c e = cc
-    go m q (some s) [] (some x) a b c e = cc
+    go m q None r x a b c e = cc
+    go m q (Some s) (y ∷ r) x a b c e = cc
+    go m q (Some s) [] (Some x) a b c e = cc
 
 pub clear_peer : (m : Memory) → (clear m).peer ≡ m.peer
 unfolding clear
 clear_peer m = refl
 
 -- a memory that was found, cleared
-pub heard_found : (p : Bytes) (g : List Memory) (i : ℕ) (d : Memory) → Ascending earlier_memory g → scan (memory_of p) 0 g ≡ some i
+pub heard_found : (p : Bytes) (g : List Memory) (i : ℕ) (d : Memory) → Ascending earlier_memory g → scan (memory_of p) 0 g ≡ Some i
     → (if remembers (clear (get_or g i d)) then set g i (clear (get_or g i d)) else erase i g) ≡ store (clear (memory p g)) g
 heard_found p g i d a e =
     ap (λ (m : Memory). if remembers (clear m) then set g i (clear m) else erase i g) (memory_at p g i d e)
@@ -133,11 +132,11 @@ heard_found p g i d a e =
 
 -- ---- room for one more, where the peer has none
 pub record Room (p : Bytes) (g : List Memory) (n : ℕ) : Type 0 where
-  pub room : scan (memory_of p) 0 g ≡ none → n < 32
+  pub room : scan (memory_of p) 0 g ≡ None → n < 32
 
 -- the same, for a memory that remembers something
 pub record RoomFor (m : Memory) (g : List Memory) (n : ℕ) : Type 0 where
-  pub room : scan (memory_of m.peer) 0 g ≡ none → remembers m ≡ true → n < 32
+  pub room : scan (memory_of m.peer) 0 g ≡ None → remembers m ≡ true → n < 32
 
 pub room_for : {p : Bytes} {g : List Memory} {n : ℕ} (m k : Memory) → m ≡ k → k.peer ≡ p → Room p g n → RoomFor m g n
 room_for m k q e r = let z : m.peer ≡ _ = ap (λ (x : Memory). x.peer) q ∙ e in record { room = λ y x. r.room (rw z at y) }
@@ -156,8 +155,8 @@ pub within_memory : (c : Params) (p : Bytes) (g : List Memory) → All (Within c
 within_memory c p g a = go (scan (memory_of p) 0 g) refl
   where
     go : (o : Option ℕ) → scan (memory_of p) 0 g ≡ o → Within c (memory p g)
-    go none e = subst (Within c) (memory_none p g e) tt
-    go (some i) e = subst (Within c) (memory_at p g i (blank p) e) (all_at (Within c) g i (blank p) a (place_within (memory_of p) g i e))
+    go None e = subst (Within c) (memory_none p g e) tt
+    go (Some i) e = subst (Within c) (memory_at p g i (blank p) e) (all_at (Within c) g i (blank p) a (place_within (memory_of p) g i e))
 
 -- every table that new or a call left has it so
 pub fits_within : (c : Params) (g : List Memory) → All (MemoryFits c) g → All (Within c) g
@@ -165,5 +164,5 @@ fits_within c [] a = tt
 fits_within c (m ∷ g) a = (go m.silence a.0.silence, fits_within c g a.1)
   where
     go : (s : Option Silence) → IfAny (SilenceFits c) s → IfAny (λ (s : Silence). length s.counted ≤ c.counted) s
-    go none f = tt
-    go (some s) f = f.limit
+    go None f = tt
+    go (Some s) f = f.limit

@@ -3,6 +3,7 @@ use Rattle.std.specs.Prelude.{◌≡◌, ℕ, ◌*◌, ◌<◌, length, set}
 use Rattle.std.proofs.Common.{sym, ◌∙◌, arith, Fits}
 use Rattle.std.specs.Int.{w64}
 use Rattle.rules.specs.Base.{Bytes}
+use Rattle.rules.specs.Bounds.{IfAny}
 use Rattle.rules.specs.Std as std
 use Rattle.rules.specs.Gates.{earlier_memory}
 use Rattle.lib_laws.specs.Shift.{replaced}
@@ -19,7 +20,7 @@ use Rattle.gates_entry.specs.Layout.{at_memory_count, memory_cap, memory_width}
 use Rattle.gates.specs.Walk.{after, Takes, count_is}
 use Rattle.gates.specs.Order.{inserted_here}
 
-module _ (m : Memory) (f : FitMemory m) (b : Fits w64 m.stamp) {s : Bytes} (g : FitGates s) where
+module _ (m : Memory) (f : FitMemory m) (b : IfAny (Fits w64) m.stamp) {s : Bytes} (g : FitGates s) where
   pub put_over : {l : Bytes} {q : ℕ} (i : ℕ) → i < gate_count s → Wrote s (i * memory_width) memory_width (memory_bytes m) l q → FitGates l × (view_gates l ≡ set (view_gates s) i (view_memory m))
   put_over {l} i h a =
       let n : length (memory_bytes m) ≡ memory_width = a.size in

@@ -1,8 +1,7 @@
 -- Zeroed memory has no memories; and regions that fit and show the same are the same bytes.
-use Rattle.std.specs.Prelude.{◌≡◌, refl, Bool, true, false, [], ◌∷◌, map, ℕ, length, take, drop, replicate, if◌then◌else◌}
+use Rattle.std.specs.Prelude.{◌≡◌, refl, Bool, true, false, [], ◌∷◌, map, ℕ, length, take, drop, replicate, if◌then◌else◌, None, Some}
 use Rattle.std.proofs.Common.{sym, ◌∙◌, arith, lit≤}
 use Rattle.std.proofs.Math.Path.{ap}
-use Rattle.std.proofs.Math.Option.{none, some}
 use Rattle.std.proofs.lemmas.List.{get_or-replicate}
 use Rattle.rules.specs.Base.{Bytes, All}
 use Rattle.rules.specs.Bounds.{IsByte}
@@ -63,7 +62,7 @@ module _ (c d : Bytes) (f : FitEntry c) (g : FitEntry d) (h : length c ≡ memor
   silences_same e = go (flag_of (take 1 (drop at_has_silence c))) (flag_of (take 1 (drop at_has_silence d))) refl refl e
     where
       go : (x y : Bool) → flag_of (take 1 (drop at_has_silence c)) ≡ x → flag_of (take 1 (drop at_has_silence d)) ≡ y
-          → (if x then some (silence_of (take silence_len (drop at_silence c))) else none) ≡ (if y then some (silence_of (take silence_len (drop at_silence d))) else none)
+          → (if x then Some (silence_of (take silence_len (drop at_silence c))) else None) ≡ (if y then Some (silence_of (take silence_len (drop at_silence d))) else None)
           → (take 1 (drop at_has_silence c) ≡ take 1 (drop at_has_silence d)) × (take silence_len (drop at_silence c) ≡ take silence_len (drop at_silence d))
       go true true p q z =
           let w : silence_of (take silence_len (drop at_silence c)) ≡ silence_of (take silence_len (drop at_silence d)) = cc in (

@@ -1,7 +1,6 @@
 -- A search over the memories, and where a memory takes its place.
-use Rattle.std.specs.Prelude.{◌≡◌, refl, Bool, true, false, [], ℕ, ◌+◌, ◌*◌, ◌≤◌, ◌<◌, length, get_or, take, drop}
+use Rattle.std.specs.Prelude.{◌≡◌, refl, Bool, true, false, [], ℕ, ◌+◌, ◌*◌, ◌≤◌, ◌<◌, length, get_or, take, drop, None, Option, Some}
 use Rattle.std.proofs.Common.{sym, ap, ◌∙◌, arith}
-use Rattle.std.proofs.Math.Option.{Option, none, some}
 use Rattle.rules.specs.Base.{Bytes, option}
 use Rattle.rules.specs.Std.{before}
 use Rattle.rules.specs.Data.{Memory}
@@ -9,8 +8,6 @@ use Rattle.lib_laws.specs.Shift.{shown}
 use Rattle.lib_laws.specs.Scan.{scan, Ahead, scan_hit, scan_skip, scan_end}
 use Rattle.lib_laws.specs.Chunk.{chunks}
 use Rattle.lib_laws.specs.Store.{entries_count}
-use Rattle.node_addr.specs.declared.Found.TheVariants as foundv
-use Rattle.node_addr.specs.View.{Finds, finds_some, finds_no}
 use Rattle.gates_entry.specs.Entry.{peer_here}
 use Rattle.gates_entry.specs.View.{entry_of, view_gates, FitGates, gate_count, no_memory, memory_at}
 use Rattle.gates_entry.specs.Layout.{memory_cap, memory_width}
@@ -35,30 +32,24 @@ module _ {o : Option ℕ} {t : Memory → Bool} {s : Bytes} {n i : ℕ} (a : Sca
   there : i < n → t (entry_of (get_or (chunks memory_width memory_cap s) i [])) ≡ t (memory_at s i)
   there h = ap t (shown entry_of i [] no_memory a.fit.kept (omega arith))
 
-  pub scanning_at : i < n → t (memory_at s i) ≡ true → o ≡ some i
-  scanning_at h e = scan_hit a.ahead [] (omega arith) (there h ∙ e)
-
-  pub scanning_hit : i < n → t (memory_at s i) ≡ true → Finds (foundv.At i) o
-  scanning_hit h e = finds_some (scanning_at h e)
+  pub scanning_hit : i < n → t (memory_at s i) ≡ true → o ≡ Some i
+  scanning_hit h e = scan_hit a.ahead [] (omega arith) (there h ∙ e)
 
   pub scanning_skip : i < n → t (memory_at s i) ≡ false → Scanning o t s n (i + 1)
   scanning_skip h e = record { fit = a.fit; count = a.count; ahead = scan_skip a.ahead [] (omega arith) (there h ∙ e) }
 
-  pub scanning_none : n ≤ i → o ≡ none
-  scanning_none h = scan_end a.ahead (omega arith)
-
-  pub scanning_end : n ≤ i → Finds foundv.Nothing o
-  scanning_end h = finds_no (scanning_none h)
+  pub scanning_end : n ≤ i → o ≡ None
+  scanning_end h = scan_end a.ahead (omega arith)
 
 -- ---- the place r that a new memory takes: before the first that it comes before, else at the end
 pub record Takes (r : ℕ) (o : Option ℕ) (n : ℕ) : Type 0 where
   pub within : r ≤ n
   pub is : r ≡ option o n (λ i. i)
 
-pub takes_here : {o : Option ℕ} {n i : ℕ} → o ≡ some i → i < n → Takes i o n
+pub takes_here : {o : Option ℕ} {n i : ℕ} → o ≡ Some i → i < n → Takes i o n
 takes_here e h = record { within = omega arith; is = rw e }
 
-pub takes_end : {o : Option ℕ} {n end : ℕ} → o ≡ none → end ≡ n → Takes end o n
+pub takes_end : {o : Option ℕ} {n end : ℕ} → o ≡ None → end ≡ n → Takes end o n
 takes_end e q = record { within = omega arith; is = rw e q }
 
 -- what was told of the peer where it stands

@@ -5,7 +5,6 @@ ghost use Rattle.rules.specs.Std as std;
 ghost use Rattle.rules.specs.Gates as rule;
 ghost use Rattle.lib_laws.specs.Shift.{erase};
 ghost use Rattle.lib_laws.specs.Scan.{scan};
-ghost use Rattle.node_addr.specs.View.{Finds};
 ghost use Rattle.gates_types.specs.View.{view_memory, FitMemory};
 ghost use Rattle.gates_entry.specs.View.{view_gates, FitGates, gate_count};
 ghost use Rattle.gates.specs.Walk.{after, Takes};
@@ -17,9 +16,10 @@ use gates_entry::put::put_memory;
 use gates_memory::remembers;
 use gates_types::{Memory, blank_memory};
 use lib_region::{count, open_chunk, remove_chunk};
-use node_addr::place::{eq_node_at, lt_node_at};
-use node_addr::{Found, NodeAddr};
+use node_addr::NodeAddr;
+use node_addr::place::{eq_fixed_at, lt_node_at};
 
+#[tactic(auto, using(crate::specs::Walk::count_is))]
 pub fn memory_count(s: &[u8]) -> usize
     requires { FitGates s.now }
     ensures value { result ≡ gate_count s.now }
@@ -28,20 +28,18 @@ pub fn memory_count(s: &[u8]) -> usize
     count(s, MEMORY_COUNT)
 }
 
-// The place of a peer's memory.
-pub fn find_memory(s: &[u8], peer: NodeAddr) -> Found
+// The place of a peer's memory. Entries are bytes of a lent region, not elements of a slice to search; and a closure that reads one would need the bound of its place once more.
+pub fn find_memory(s: &[u8], peer: NodeAddr) -> Option<usize>
     requires { FitGates s.now }
-    ensures { Finds result (scan (rule.memory_of peer.0) 0 (view_gates s.now)) }
+    ensures { result ≡ scan (rule.memory_of peer.0) 0 (view_gates s.now) }
 {
     let end = memory_count(s);
-    let mut i = 0;
-    while i < end {
-        if eq_node_at(s, i * MEMORY_WIDTH, peer) {
-            return Found::At(i);
+    for i in 0..end {
+        if eq_fixed_at(s, i * MEMORY_WIDTH, peer) {
+            return Some(i);
         }
-        i += 1;
     }
-    Found::Nothing
+    None
 }
 
 // The place that a peer without a memory takes: before the first that it comes before, else at the end.
@@ -50,12 +48,10 @@ fn place_of(s: &[u8], peer: NodeAddr) -> usize
     ensures { Takes result (scan (after peer.0) 0 (view_gates s.now)) (gate_count s.now) }
 {
     let end = memory_count(s);
-    let mut i = 0;
-    while i < end {
+    for i in 0..end {
         if lt_node_at(s, i * MEMORY_WIDTH, peer) {
             return i;
         }
-        i += 1;
     }
     end
 }
@@ -67,8 +63,8 @@ pub fn memory_of(s: &[u8], peer: NodeAddr) -> Memory
     ensures result_value { view_memory result ≡ rule.memory peer.0 (view_gates s.now) }
 {
     match find_memory(s, peer) {
-        Found::At(i) => get_memory(s, i),
-        Found::Nothing => blank_memory(peer),
+        Some(i) => get_memory(s, i),
+        None => blank_memory(peer),
     }
 }
 
@@ -80,8 +76,8 @@ pub fn replace_memory(s: &mut [u8], i: usize, m: Memory)
     ensures fit_gates_2 { FitGates s.new }
     ensures s_after { view_gates s.new ≡ (if rule.remembers (view_memory m) then set (view_gates s.old) i (view_memory m) else erase i (view_gates s.old)) }
 {
-    if remembers(m) {
-        put_memory(s, i * MEMORY_WIDTH, m);
+    if remembers(&m) {
+        put_memory(s, i * MEMORY_WIDTH, &m);
     } else {
         remove_chunk(s, MEMORY_WIDTH, MEMORY_CAP, i);
     }
@@ -95,10 +91,9 @@ fn insert_memory(s: &mut [u8], m: Memory)
     ensures fit_gates_2 { FitGates s.new }
     ensures s_after { view_gates s.new ≡ std.insert rule.earlier_memory (view_memory m) (view_gates s.old) }
 {
-    let peer = m.peer;
-    let at = place_of(s, peer);
+    let at = place_of(s, m.peer);
     open_chunk(s, MEMORY_WIDTH, MEMORY_CAP, at);
-    put_memory(s, at * MEMORY_WIDTH, m);
+    put_memory(s, at * MEMORY_WIDTH, &m);
 }
 
 // The same, unless it remembers nothing.
@@ -109,7 +104,7 @@ fn add_memory(s: &mut [u8], m: Memory)
     ensures fit_gates_2 { FitGates s.new }
     ensures s_after { view_gates s.new ≡ (if rule.remembers (view_memory m) then std.insert rule.earlier_memory (view_memory m) (view_gates s.old) else view_gates s.old) }
 {
-    if remembers(m) {
+    if remembers(&m) {
         insert_memory(s, m);
     }
 }
@@ -123,13 +118,8 @@ pub fn store_memory(s: &mut [u8], m: Memory)
     ensures fit_gates_2 { FitGates s.new }
     ensures s_after { view_gates s.new ≡ rule.store (view_memory m) (view_gates s.old) }
 {
-    let peer = m.peer;
-    match find_memory(s, peer) {
-        Found::At(i) => {
-            replace_memory(s, i, m);
-        }
-        Found::Nothing => {
-            add_memory(s, m);
-        }
+    match find_memory(s, m.peer) {
+        Some(i) => replace_memory(s, i, m),
+        None => add_memory(s, m),
     }
 }

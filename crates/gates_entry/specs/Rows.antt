@@ -1,16 +1,16 @@
 -- A row of parts of one width, and then a byte that says how many are in use: read part by part, written part by part.
-use Rattle.std.specs.Prelude.{◌≡◌, refl, List, [], ◌∷◌, ◌++◌, map, ℕ, zero, suc, ◌+◌, ◌-◌, ◌*◌, ◌≤◌, ◌<◌, length, take, drop, get_or, set, replicate}
-use Rattle.std.proofs.Common.{sym, ap, ◌∙◌, append_assoc, append-nil, zero-mul, suc-mul, add-one, arith, take_at, drop_at, take-suc, take_all, length-take-le, length-append}
-use Rattle.std.proofs.lemmas.List.{length-map, length-replicate}
-use Rattle.std.proofs.Math.ListN.{get_or-map}
+use Rattle.std.specs.Prelude.{◌≡◌, refl, List, [], ◌∷◌, ◌++◌, map, ℕ, zero, suc, ◌+◌, ◌-◌, ◌*◌, ◌≤◌, ◌<◌, length, take, drop, get_or, replicate}
+use Rattle.std.proofs.Common.{sym, ap, ◌∙◌, append_assoc, append-nil, zero-add, zero-mul, suc-mul, add-mul, add_comm, add-one, arith, take_at, drop_at, take-suc, take_all, length-take-le, length-append}
+use Rattle.std.proofs.lemmas.List.{length-map, length-replicate, map-append}
 use Rattle.rules.specs.Base.{Bytes, All}
-use Rattle.lib_laws.specs.Shift.{Kept, get_d_any, map_take, all_take, all_replicate, all_set}
-use Rattle.lib_laws.specs.Buffer.{Copying, copying_start, copying_turn, copying_end, drop_replicate}
-use Rattle.lib_laws.specs.Splice.{splice, splice_none, splice_splice, length_splice, Wrote, wrote_then}
+use Rattle.lib_laws.specs.Shift.{all_append, all_replicate}
+use Rattle.lib_laws.specs.Splice.{splice_none, Wrote, wrote_then}
 use Rattle.lib_laws.specs.Part.{part_at}
 use Rattle.lib_laws.specs.Chunk.{chunks, joined, length_chunks}
 use Rattle.lib_laws.specs.Fields.{cuts, sum}
 use Rattle.lib_laws.specs.Store.{Store, entries}
+use Rattle.arrayvec.specs.ArrayVec.{ArrayVec}
+use Rattle.gates_types.specs.View.{Few}
 
 -- of a part nothing more is asked
 abbrev pub AnyBytes : Bytes → Type 0
@@ -43,15 +43,6 @@ last_byte : (s : Bytes) (n : ℕ) → get_or (s ++ (n ∷ [])) (length s) 0 ≡ 
 last_byte [] n = refl
 last_byte (x ∷ s) n = last_byte s n
 
-map_replicate : {A B : Type 0} (f : A → B) (n : ℕ) (x : A) → map f (replicate n x) ≡ replicate n (f x)
-map_replicate f zero x = refl
-map_replicate {B = B} f (suc n) x = ap (λ (t : List B). f x ∷ t) (map_replicate f n x)
-
-map_drop : {A B : Type 0} (f : A → B) (n : ℕ) (xs : List A) → map f (drop n xs) ≡ drop n (map f xs)
-map_drop f zero xs = refl
-map_drop f (suc n) [] = refl
-map_drop f (suc n) (x ∷ xs) = map_drop f n xs
-
 all_map : {A B : Type 0} (P : A → Type 0) (Q : B → Type 0) (f : A → B) → ((x : A) → P x → Q (f x)) → (xs : List A) → All P xs → All Q (map f xs)
 all_map P Q f h [] a = tt
 all_map P Q f h (x ∷ xs) a = (h x a.0, all_map P Q f h xs a.1)
@@ -68,149 +59,123 @@ all_any_bytes : (xs : List Bytes) → All AnyBytes xs
 all_any_bytes [] = tt
 all_any_bytes (x ∷ xs) = (tt, all_any_bytes xs)
 
--- places that are kept by P and spelt by enc, each in w bytes; g shows the bytes as f shows the place
-module _ {A B : Type 0} (f : A → B) (g : Bytes → B) (enc : A → Bytes) {P : A → Type 0} {b : A} {cap : ℕ} (w : ℕ) {n : ℕ} {ps : List A} (k : Kept P b cap n ps)
-    (wide : (x : A) → P x → length (enc x) ≡ w) (blank : enc b ≡ replicate w 0) where
-  row_wide : All (Wide w) (map enc ps)
-  row_wide = all_map P (Wide w) enc wide ps k.each
-
-  row_count : length (map enc ps) ≡ cap
-  row_count = length-map ps enc ∙ k.size
-
-  row_length : length (joined (map enc ps)) ≡ cap * w
-  row_length = joined_length w (map enc ps) row_wide ∙ ap (λ (c : ℕ). c * w) row_count
-
-  row_chunks : chunks w cap (joined (map enc ps) ++ (n ∷ [])) ≡ map enc ps
-  row_chunks = ap (λ (c : ℕ). chunks w c (joined (map enc ps) ++ (n ∷ []))) (sym row_count) ∙ chunks_back w (map enc ps) (n ∷ []) row_wide
-
-  row_last : get_or (joined (map enc ps) ++ (n ∷ [])) (cap * w) 0 ≡ n
-  row_last = ap (λ (i : ℕ). get_or (joined (map enc ps) ++ (n ∷ [])) i 0) (sym row_length) ∙ last_byte (joined (map enc ps)) n
-
-  pub row_size : length (joined (map enc ps) ++ (n ∷ [])) ≡ cap * w + 1
-  row_size = rw (length-append, row_length)
-
-  pub row_store : Store AnyBytes w cap (joined (map enc ps) ++ (n ∷ []))
-  row_store = record {
-    size = row_size;
-    kept = rw (row_last, row_chunks) (record {
-      small = k.small;
-      size = row_count;
-      rest = sym (map_drop enc n ps) ∙ ap (map enc) k.rest ∙ map_replicate enc (cap - n) b ∙ rw blank;
-      each = all_any_bytes (map enc ps);
-    });
-  }
-
-  pub row_shows : ((x : A) → P x → g (enc x) ≡ f x) → entries g w cap (joined (map enc ps) ++ (n ∷ [])) ≡ map f (take n ps)
-  row_shows shows =
-      rw (row_last, row_chunks) (ap (map g) (sym (map_take enc n ps)) ∙ map_map enc g (take n ps) ∙ map_alike P (λ x. g (enc x)) f shows (take n ps) (all_take P n ps k.each))
-
--- ---- the loop that writes a row, and stands at i
-pub record Rowing (w : ℕ) (bs : List Bytes) (s : Bytes) (at i : ℕ) (l : Bytes) : Type 0 where
-  pub within : i ≤ length bs
-  pub wide : All (Wide w) bs
-  pub room : at + length bs * w ≤ length s
-  pub size : length l ≡ length s
-  pub now : l ≡ splice s at (joined (take i bs))
-
-pub rowing_start : (w : ℕ) (bs : List Bytes) (s : Bytes) (at : ℕ) → All (Wide w) bs → at + length bs * w ≤ length s → Rowing w bs s at 0 s
+joined_append : (cs bs : List Bytes) → joined (cs ++ bs) ≡ joined cs ++ joined bs
 unfolding joined
-rowing_start w bs s at a h = record { within = omega arith; wide = a; room = h; size = refl; now = sym (splice_none s at) }
+joined_append [] bs = refl
+joined_append (c ∷ cs) bs = rw (joined_append cs bs, append_assoc)
 
+replicate_add : {A : Type 0} (n m : ℕ) (x : A) → replicate n x ++ replicate m x ≡ replicate (n + m) x
+replicate_add zero m x = rw zero-add
+replicate_add {A} (suc n) m x = let z : suc n + m ≡ suc (n + m) = omega arith in rw z (ap (λ (t : List A). x ∷ t) (replicate_add n m x))
+
+joined_zeros : (k w : ℕ) → joined (replicate k (replicate w 0)) ≡ replicate (k * w) 0
+unfolding joined
+joined_zeros zero w = rw zero-mul
+joined_zeros (suc k) w = rw (joined_zeros k w, suc-mul, add_comm (k * w) w) (replicate_add w (k * w) 0)
+
+-- a list spelt by enc, each in w bytes: zeros for the places that are left of cap, and the count
+abbrev pub row_bytes : {A : Type 0} → (A → Bytes) → ℕ → ℕ → List A → Bytes
+row_bytes enc w cap xs = joined (map enc xs) ++ replicate ((cap - length xs) * w) 0 ++ (length xs ∷ [])
+
+-- g shows the bytes as f shows what they spell
+module _ {A B : Type 0} (f : A → B) (g : Bytes → B) (enc : A → Bytes) {P : A → Type 0} (cap w : ℕ) (xs : List A) (small : length xs ≤ cap) (each : All P xs) (wide : (x : A) → P x → length (enc x) ≡ w) where
+  parts : List Bytes
+  parts = map enc xs ++ replicate (cap - length xs) (replicate w 0)
+
+  row_wide : All (Wide w) parts
+  unfolding parts
+  row_wide =
+      all_append (Wide w) (map enc xs) (replicate (cap - length xs) (replicate w 0)) (all_map P (Wide w) enc wide xs each) (all_replicate (Wide w) (cap - length xs) (replicate w 0) (length-replicate w 0))
+
+  row_count : length parts ≡ cap
+  unfolding parts
+  row_count = rw (length-append, length-map xs enc, length-replicate) (omega arith)
+
+  row_joined : joined (map enc xs) ++ replicate ((cap - length xs) * w) 0 ≡ joined parts
+  unfolding parts
+  row_joined = rw (joined_append (map enc xs) (replicate (cap - length xs) (replicate w 0)), joined_zeros)
+
+  row_is : row_bytes enc w cap xs ≡ joined parts ++ (length xs ∷ [])
+  row_is = ap (λ (t : Bytes). t ++ (length xs ∷ [])) row_joined
+
+  row_length : length (joined parts) ≡ cap * w
+  row_length = joined_length w parts row_wide ∙ ap (λ (c : ℕ). c * w) row_count
+
+  row_chunks : chunks w cap (joined parts ++ (length xs ∷ [])) ≡ parts
+  row_chunks = ap (λ (c : ℕ). chunks w c (joined parts ++ (length xs ∷ []))) (sym row_count) ∙ chunks_back w parts (length xs ∷ []) row_wide
+
+  row_last : get_or (joined parts ++ (length xs ∷ [])) (cap * w) 0 ≡ length xs
+  row_last = ap (λ (i : ℕ). get_or (joined parts ++ (length xs ∷ [])) i 0) (sym row_length) ∙ last_byte (joined parts) (length xs)
+
+  pub row_size : length (row_bytes enc w cap xs) ≡ cap * w + 1
+  row_size = rw (row_is, length-append, row_length)
+
+  pub row_store : Store AnyBytes w cap (row_bytes enc w cap xs)
+  unfolding parts
+  row_store = rw row_is (record {
+    size = rw (length-append, row_length);
+    kept = rw (row_last, row_chunks) (record {
+      small = small;
+      size = row_count;
+      rest = drop_at (map enc xs) (replicate (cap - length xs) (replicate w 0)) (length xs) (length-map xs enc);
+      each = all_any_bytes parts;
+    });
+  })
+
+  pub row_shows : ((x : A) → P x → g (enc x) ≡ f x) → entries g w cap (row_bytes enc w cap xs) ≡ map f xs
+  unfolding parts
+  row_shows shows =
+      rw (row_is, row_last, row_chunks, take_at (map enc xs) (replicate (cap - length xs) (replicate w 0)) (length xs) (length-map xs enc))
+      (map_map enc g xs ∙ map_alike P (λ x. g (enc x)) f shows xs each)
+
+-- ---- the loop that writes a row, and has written i parts
 joined_snoc : (bs : List Bytes) (c : Bytes) → joined (bs ++ (c ∷ [])) ≡ joined bs ++ c
 unfolding joined
-joined_snoc [] c = append-nil c
-joined_snoc (b ∷ bs) c = rw (joined_snoc bs c, append_assoc)
+joined_snoc bs c = joined_append bs (c ∷ []) ∙ ap (λ (t : Bytes). joined bs ++ t) (append-nil c)
 
-mul_more : (i n w : ℕ) → i < n → i * w + w ≤ n * w
-mul_more i zero w h = absurd (omega arith)
-mul_more zero (suc n) w h = rw (zero-mul, suc-mul) (omega arith)
-mul_more (suc i) (suc n) w h = let r = mul_more i n w (omega arith) in rw (suc-mul, suc-mul) (omega arith)
+module _ {A : Type 0} (enc : A → Bytes) (w : ℕ) (xs : List A) where
+  -- what is written of the first i
+  pub record Rowing (s : Bytes) (at i : ℕ) (l : Bytes) (a : ℕ) : Type 0 where
+    pub wrote : Wrote s at (i * w) (joined (map enc (take i xs))) l a
 
-module _ {w : ℕ} {bs : List Bytes} {s : Bytes} {at i : ℕ} {l : Bytes} (a : Rowing w bs s at i l) where
-  rowed : length (joined (take i bs)) ≡ i * w
-  rowed = joined_length w (take i bs) (all_take (Wide w) i bs a.wide) ∙ ap (λ (c : ℕ). c * w) (length-take-le i bs a.within)
+  pub row_start : (s : Bytes) (at : ℕ) → at ≤ length s → Rowing s at 0 s at
+  unfolding joined
+  row_start s at h = record { wrote = rw zero-mul (record { end = omega arith; size = refl; room = omega arith; is = sym (splice_none s at) }) }
 
-  pub rowing_room : i < length bs → at + i * w + w ≤ length l
-  rowing_room h = let m = mul_more i (length bs) w h in let e = a.size in let r = a.room in omega arith
+  module _ {s : Bytes} {at i a : ℕ} {l : Bytes} (r : Rowing s at i l a) where
+    pub row_turn : {l' : Bytes} {a' : ℕ} (d : A) → i < length xs → Wrote l a w (enc (get_or xs i d)) l' a' → Rowing s at (i + 1) l' a'
+    row_turn d h t = record { wrote = rw (add-one, suc-mul, take-suc xs i d h, map-append, joined_snoc) (wrote_then r.wrote t) }
 
-  pub rowing_turn : {l' c : Bytes} {q : ℕ} → i < length bs → c ≡ get_or bs i [] → Wrote l (at + i * w) w c l' q → Rowing w bs s at (i + 1) l'
-  rowing_turn {l'} {c} h e r =
-      let m = mul_more i (length bs) w h in
-      let z = a.room in
-      let n : length (joined (take i bs)) ≡ i * w = rowed in
-      let y : l' ≡ splice s at (joined (take i bs) ++ c) =
-      r.is ∙ rw (a.now, ← n) (splice_splice s at (joined (take i bs)) c (omega arith)) in
-      record {
-        within = omega arith;
-        wide = a.wide;
-        room = a.room;
-        size = ap length r.is ∙ length_splice l (at + i * w) c (rw r.size r.room) ∙ a.size;
-        now = y ∙ ap (splice s at) (rw (add-one, take-suc bs i [] h, joined_snoc (take i bs) (get_or bs i []), e));
-      }
+    pub row_end : {m l' : Bytes} {b q n : ℕ} (cap : ℕ) → length xs ≤ cap → i ≡ length xs → n ≡ length xs
+        → Wrote l a ((cap - n) * w) (replicate ((cap - n) * w) 0) m b → Wrote m b 1 (n ∷ []) l' q → Wrote s at (cap * w + 1) (row_bytes enc w cap xs) l' q
+    row_end cap h e k t u =
+        let z : length xs * w + (cap - length xs) * w ≡ cap * w = sym (add-mul (length xs) (cap - length xs) w) ∙ ap (λ (c : ℕ). c * w) (omega arith) in
+        let y = rw (e, take_all (length xs) xs (omega arith)) at r.wrote in
+        rw (← z) (wrote_then (wrote_then y (rw k at t)) (rw k at u))
 
-  pub rowing_end : length bs ≤ i → Wrote s at (length bs * w) (joined bs) l (at + length bs * w)
-  rowing_end h = record {
-    end = refl;
-    size = joined_length w bs a.wide;
-    room = a.room;
-    is = a.now ∙ ap (λ (t : List Bytes). splice s at (joined t)) (take_all i bs h);
+-- ---- the loop that reads a row, and stands at i: dec makes an item of a part
+pub record Fetching {A : Type 0} (P : A → Type 0) (dec : Bytes → A) (w cap : ℕ) (c : Bytes) (i : ℕ) (v : ArrayVec A) : Type 0 where
+  pub items : v.items ≡ map dec (take i (chunks w cap c))
+  pub each : All P v.items
+
+pub fetching_start : {A : Type 0} (P : A → Type 0) (dec : Bytes → A) (w cap : ℕ) (c : Bytes) {v : ArrayVec A} → v.items ≡ [] → Fetching P dec w cap c 0 v
+fetching_start P dec w cap c e = record { items = e; each = rw e tt }
+
+module _ {A : Type 0} {P : A → Type 0} {dec : Bytes → A} {w cap : ℕ} {c : Bytes} {i : ℕ} {v : ArrayVec A} (a : Fetching P dec w cap c i v) where
+  pub fetching_length : i ≤ cap → length v.items ≡ i
+  fetching_length h = ap length a.items ∙ length-map (take i (chunks w cap c)) dec ∙ length-take-le i (chunks w cap c) (rw length_chunks h)
+
+  pub fetching_turn : {x : A} {u : ArrayVec A} → i < cap → x ≡ dec (get_or (chunks w cap c) i []) → P x → u.items ≡ v.items ++ (x ∷ []) → Fetching P dec w cap c (i + 1) u
+  fetching_turn {x} h e px y = record {
+    items = y ∙ rw (a.items, add-one, take-suc (chunks w cap c) i [] (rw length_chunks h), map-append, e);
+    each = rw y (all_append P v.items (x ∷ []) a.each (px, tt));
   }
 
--- the same of places that are kept by P and spelt by enc, and then their count
-module _ {A : Type 0} (enc : A → Bytes) {P : A → Type 0} {b : A} {cap : ℕ} (w : ℕ) {n : ℕ} {ps : List A} (k : Kept P b cap n ps) (wide : (x : A) → P x → length (enc x) ≡ w) where
-  spelt_count : length (map enc ps) ≡ cap
-  spelt_count = length-map ps enc ∙ k.size
-
-  pub row_start : (s : Bytes) (at : ℕ) → at + cap * w ≤ length s → Rowing w (map enc ps) s at 0 s
-  row_start s at h = rowing_start w (map enc ps) s at (all_map P (Wide w) enc wide ps k.each) (rw spelt_count h)
-
-  module _ {s : Bytes} {at i : ℕ} {l : Bytes} (a : Rowing w (map enc ps) s at i l) where
-    pub row_turn : {l' : Bytes} {q : ℕ} (d : A) → i < cap → Wrote l (at + i * w) w (enc (get_or ps i d)) l' q → Rowing w (map enc ps) s at (i + 1) l'
-    row_turn d h r =
-        let z = spelt_count in
-        rowing_turn a (omega arith) (sym (get_or-map enc ps i d) ∙ get_d_any (map enc ps) i (enc d) [] (omega arith)) r
-
-    pub row_end : {l' : Bytes} {q : ℕ} → cap ≤ i → Wrote l (at + cap * w) 1 (n ∷ []) l' q → Wrote s at (cap * w + 1) (joined (map enc ps) ++ (n ∷ [])) l' q
-    row_end h r =
-        let z = spelt_count in
-        wrote_then (rw z at (rowing_end a (omega arith))) r
-
--- ---- the loop that reads a row, and stands at i: dec makes a place of a part
-pub record Fetching {A : Type 0} (P : A → Type 0) (dec : Bytes → A) (w cap : ℕ) (b : A) (c : Bytes) (n i : ℕ) (l : List A) : Type 0 where
-  pub within : i ≤ n
-  pub small : n ≤ cap
-  pub count : n ≡ get_or c (cap * w) 0
-  pub size : length l ≡ cap
-  pub each : All P l
-  pub copy : Copying (map dec (chunks w cap c)) 0 (replicate cap b) n i l
-
-pub fetching_start : {A : Type 0} (P : A → Type 0) (dec : Bytes → A) (w cap : ℕ) (b : A) {c : Bytes} {n : ℕ} → P b → Store AnyBytes w cap c → n ≡ get_or c (cap * w) 0
-    → Fetching P dec w cap b c n 0 (replicate cap b)
-fetching_start P dec w cap b {c} {n} pb r e =
-    let l : length (map dec (chunks w cap c)) ≡ cap = length-map (chunks w cap c) dec ∙ length_chunks w cap c in
-    record {
-      within = omega arith;
-      small = omega arith;
-      count = e;
-      size = length-replicate cap b;
-      each = all_replicate P cap b pb;
-      copy = copying_start (map dec (chunks w cap c)) 0 (replicate cap b) n (omega arith) (rw length-replicate (omega arith));
-    }
-
-module _ {A : Type 0} {P : A → Type 0} {dec : Bytes → A} {w cap : ℕ} {b : A} {c : Bytes} {n i : ℕ} {l : List A} (a : Fetching P dec w cap b c n i l) where
-  pub fetching_turn : {x : A} → i < n → x ≡ dec (get_or (chunks w cap c) i []) → P x → Fetching P dec w cap b c n (i + 1) (set l i x)
-  fetching_turn {x} h e px =
-      let z : 0 + i ≡ i = omega arith in
-      let t = copying_turn (dec []) a.copy h in
-      let y : get_or (map dec (chunks w cap c)) (0 + i) (dec []) ≡ x = rw z (get_or-map dec (chunks w cap c) i [] ∙ sym e) in
-      let u = rw y at t in
-      record { within = omega arith; small = a.small; count = a.count; size = u.size ∙ length-replicate cap b; each = all_set P l i x a.each px; copy = u }
-
-  pub fetching_end : {B : Type 0} (f : A → B) → n ≤ i → Kept P b cap n l × (map f (take n l) ≡ entries (λ d. f (dec d)) w cap c)
-  fetching_end f h =
-      let m : length (map dec (chunks w cap c)) ≡ cap = length-map (chunks w cap c) dec ∙ length_chunks w cap c in
-      let t : length (take n (map dec (chunks w cap c))) ≡ n = length-take-le n (map dec (chunks w cap c)) (omega arith) in
-      let e : l ≡ take n (map dec (chunks w cap c)) ++ replicate (cap - n) b = copying_end a.copy h ∙ rw (drop_replicate n cap b) in (
-        record { small = a.small; size = a.size; rest = rw (e, drop_at (take n (map dec (chunks w cap c))) (replicate (cap - n) b) n t); each = a.each },
-        rw (e, take_at (take n (map dec (chunks w cap c))) (replicate (cap - n) b) n t) (ap (map f) (sym (map_take dec n (chunks w cap c))) ∙ map_map dec f (take n (chunks w cap c)) ∙ ap (λ (k : ℕ). map (λ d. f (dec d)) (take k (chunks w cap c))) a.count),
+  pub fetching_end : {B : Type 0} (f : A → B) {n : ℕ} → cap ≤ 8 → Store AnyBytes w cap c → n ≡ get_or c (cap * w) 0 → i ≡ n → Few P v × (map f v.items ≡ entries (λ d. f (dec d)) w cap c)
+  fetching_end f {n} few r e h =
+      let s = r.kept.small in
+      let l = fetching_length (omega arith) in
+      let q : i ≡ get_or c (cap * w) 0 = h ∙ e in (
+        record { small = omega arith; each = a.each },
+        ap (map f) a.items ∙ map_map dec f (take i (chunks w cap c)) ∙ ap (λ (k : ℕ). map (λ d. f (dec d)) (take k (chunks w cap c))) q,
       )

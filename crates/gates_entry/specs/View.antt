@@ -1,6 +1,5 @@
 -- What the bytes of an entry and of a region show, and their canonical form.
-use Rattle.std.specs.Prelude.{◌≡◌, refl, false, List, [], ◌∷◌, ℕ, take, drop, get_or, replicate, if◌then◌else◌}
-use Rattle.std.proofs.Math.Option.{none, some}
+use Rattle.std.specs.Prelude.{◌≡◌, refl, false, List, [], ◌∷◌, ℕ, take, drop, get_or, replicate, if◌then◌else◌, None, Some}
 use Rattle.std.proofs.Common.{lit<}
 use Rattle.rules.specs.Base.{Bytes}
 use Rattle.rules.specs.Data.{Replay, Silence, Memory}
@@ -50,7 +49,7 @@ entry_from fs = record {
   peer = cell fs 0;
   stamp = option_num (cell fs 1) (cell fs 2);
   replays = entries replay_of replay_width replay_cap (cell fs 5);
-  silence = if flag_of (cell fs 3) then some (silence_of (cell fs 4)) else none;
+  silence = if flag_of (cell fs 3) then Some (silence_of (cell fs 4)) else None;
 }
 
 abbrev pub entry_of : Bytes → Memory
@@ -70,6 +69,7 @@ FitEntry c = FitCells (cuts 0 0 entry_ws c)
 abbrev pub view_gates : Bytes → List Memory
 view_gates s = entries entry_of memory_width memory_cap s
 
+-- a clause of each function that is lent the region: a struct that lends it would ask of each caller that the reference within keeps its name
 abbrev pub FitGates : Bytes → Type 0
 FitGates s = Store FitEntry memory_width memory_cap s
 

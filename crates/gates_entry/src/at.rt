@@ -1,37 +1,28 @@
-// Single cells of the i-th memory, read where they stand; blank where what they say is absent.
+// Single cells of the i-th memory, read where they stand.
 ghost use Rattle.std.specs.Prelude.{◌≡◌, ◌+◌, ◌*◌, ◌<◌, take, drop, get_or};
 ghost use Rattle.rules.specs.Base.{same};
-ghost use Rattle.lib_laws.specs.Cell.{num, flag_of};
+ghost use Rattle.lib_laws.specs.Cell.{num, flag_of, option_num};
 ghost use Rattle.node_addr.specs.Layout.{digest_len};
 ghost use Rattle.gates_entry.specs.Layout.{at_has_silence, at_has_stamp, at_has_until, at_replay_count, at_replays, at_seen, at_silence, at_silence_epoch, at_stamp, at_until, memory_width, replay_cap, replay_width};
 ghost use Rattle.gates_entry.specs.View.{FitGates, gate_count};
 
 use crate::layout::{
-    EPOCH, HAS_SILENCE, HAS_STAMP, HAS_UNTIL, MEMORY_WIDTH, REPLAY_COUNT, REPLAY_WIDTH, REPLAYS,
-    SEEN, SILENCE, STAMP, UNTIL,
+    HAS_SILENCE, HAS_STAMP, HAS_UNTIL, MEMORY_WIDTH, REPLAY_COUNT, REPLAY_WIDTH, REPLAYS, SEEN,
+    SILENCE,
 };
-use lib_bytes::flag::get_flag;
+use lib_bytes::flag::{get_flag, get_option};
 use lib_bytes::read::get_8;
 use lib_region::count;
 use node_addr::Digest;
-use node_addr::place::eq_digest_at;
+use node_addr::place::eq_fixed_at;
 
-// Whether it has a stamp.
-pub fn has_stamp_at(s: &[u8], i: usize) -> bool
+// Its stamp, if it has one.
+pub fn stamp_at(s: &[u8], i: usize) -> Option<u64>
     requires fit_gates { FitGates s.now }
     requires i_bound { i < gate_count s.now }
-    ensures { result ≡ flag_of (take 1 (drop (i * memory_width + at_has_stamp) s.now)) }
+    ensures { result ≡ option_num (take 1 (drop (i * memory_width + at_has_stamp) s.now)) (take 8 (drop (i * memory_width + at_stamp) s.now)) }
 {
-    get_flag(s, i * MEMORY_WIDTH + HAS_STAMP)
-}
-
-// Its stamp.
-pub fn stamp_at(s: &[u8], i: usize) -> u64
-    requires fit_gates { FitGates s.now }
-    requires i_bound { i < gate_count s.now }
-    ensures { result ≡ num (take 8 (drop (i * memory_width + at_stamp) s.now)) }
-{
-    get_8(s, i * MEMORY_WIDTH + STAMP)
+    get_option(s, i * MEMORY_WIDTH + HAS_STAMP)
 }
 
 // Whether it has a silence.
@@ -43,40 +34,22 @@ pub fn has_silence_at(s: &[u8], i: usize) -> bool
     get_flag(s, i * MEMORY_WIDTH + HAS_SILENCE)
 }
 
-// Whether its silence has an epoch.
-pub fn has_epoch_at(s: &[u8], i: usize) -> bool
+// The epoch of its silence, if that has one.
+pub fn epoch_at(s: &[u8], i: usize) -> Option<u64>
     requires fit_gates { FitGates s.now }
     requires i_bound { i < gate_count s.now }
-    ensures { result ≡ flag_of (take 1 (drop (i * memory_width + at_silence) s.now)) }
+    ensures { result ≡ option_num (take 1 (drop (i * memory_width + at_silence) s.now)) (take 8 (drop (i * memory_width + at_silence + at_silence_epoch) s.now)) }
 {
-    get_flag(s, i * MEMORY_WIDTH + SILENCE)
+    get_option(s, i * MEMORY_WIDTH + SILENCE)
 }
 
-// The epoch of its silence.
-pub fn epoch_at(s: &[u8], i: usize) -> u64
+// Until when its silence refuses, if it does.
+pub fn until_at(s: &[u8], i: usize) -> Option<u64>
     requires fit_gates { FitGates s.now }
     requires i_bound { i < gate_count s.now }
-    ensures { result ≡ num (take 8 (drop (i * memory_width + at_silence + at_silence_epoch) s.now)) }
+    ensures { result ≡ option_num (take 1 (drop (i * memory_width + at_silence + at_has_until) s.now)) (take 8 (drop (i * memory_width + at_silence + at_until) s.now)) }
 {
-    get_8(s, i * MEMORY_WIDTH + SILENCE + EPOCH)
-}
-
-// Whether its silence refuses until a time.
-pub fn has_until_at(s: &[u8], i: usize) -> bool
-    requires fit_gates { FitGates s.now }
-    requires i_bound { i < gate_count s.now }
-    ensures { result ≡ flag_of (take 1 (drop (i * memory_width + at_silence + at_has_until) s.now)) }
-{
-    get_flag(s, i * MEMORY_WIDTH + SILENCE + HAS_UNTIL)
-}
-
-// Until when its silence refuses.
-pub fn until_at(s: &[u8], i: usize) -> u64
-    requires fit_gates { FitGates s.now }
-    requires i_bound { i < gate_count s.now }
-    ensures { result ≡ num (take 8 (drop (i * memory_width + at_silence + at_until) s.now)) }
-{
-    get_8(s, i * MEMORY_WIDTH + SILENCE + UNTIL)
+    get_option(s, i * MEMORY_WIDTH + SILENCE + HAS_UNTIL)
 }
 
 // How many replays it has.
@@ -105,5 +78,5 @@ pub fn replay_is(s: &[u8], i: usize, j: usize, digest: Digest) -> bool
     requires j_lt_replay_cap { j < replay_cap }
     ensures { result ≡ same digest.0 (take digest_len (drop (i * memory_width + at_replays + j * replay_width) s.now)) }
 {
-    eq_digest_at(s, i * MEMORY_WIDTH + REPLAYS + j * REPLAY_WIDTH, digest)
+    eq_fixed_at(s, i * MEMORY_WIDTH + REPLAYS + j * REPLAY_WIDTH, digest)
 }

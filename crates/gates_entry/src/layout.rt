@@ -1,21 +1,18 @@
 // A memory's entry, and the region of them.
+use gates_types::{DIGEST_CAP, REPLAY_CAP};
 use lib_bytes::layout::{U32, U64};
 use node_addr::layout::{DIGEST_LEN, NODE_LEN};
 
-// A replay: its digest, when it was seen. Eight of them, then how many there are.
+// A replay: its digest, when it was seen. Room for eight, then how many there are.
 pub const SEEN: usize = DIGEST_LEN;
 
 pub const REPLAY_WIDTH: usize = SEEN + U64;
-
-pub const REPLAY_CAP: usize = 8;
 
 pub const REPLAY_COUNT: usize = REPLAY_CAP * REPLAY_WIDTH;
 
 pub const REPLAYS_LEN: usize = REPLAY_COUNT + 1;
 
-// The digests that a silence counted: eight, then how many there are.
-pub const DIGEST_CAP: usize = 8;
-
+// The digests that a silence counted: room for eight, then how many there are.
 pub const DIGEST_COUNT: usize = DIGEST_CAP * DIGEST_LEN;
 
 pub const DIGESTS_LEN: usize = DIGEST_COUNT + 1;

@@ -1,7 +1,6 @@
 -- The walk over the replays of the i-th memory, where they stand.
-use Rattle.std.specs.Prelude.{◌≡◌, true, false, List, [], ◌∷◌, map, ℕ, suc, ◌+◌, ◌*◌, ◌≤◌, ◌<◌, leb, length, take, drop, get_or, if◌then◌else◌}
+use Rattle.std.specs.Prelude.{◌≡◌, true, false, List, [], ◌∷◌, map, ℕ, suc, ◌+◌, ◌*◌, ◌≤◌, ◌<◌, leb, length, take, drop, get_or, if◌then◌else◌, None, Option, Some}
 use Rattle.std.proofs.Common.{sym, ap, ◌∙◌, add-one, arith, le-leb, drop_of_length-le}
-use Rattle.std.proofs.Math.Option.{Option, none, some}
 use Rattle.std.proofs.lemmas.Bool.{lt-leb}
 use Rattle.rules.specs.Base.{Bytes, same}
 use Rattle.rules.specs.Time.{Params, younger}
@@ -18,7 +17,7 @@ use Rattle.gates_entry.specs.Layout.{at_replay_count, at_replays, at_seen, memor
 -- what the replays that are left say, once k younger than the interval have been passed, none of them the digest's
 abbrev left_of : Params → ℕ → Bytes → ℕ → List Replay → Option Refusal
 left_of c now e k xs =
-    if seen_in e (recent_replays c now xs) then some Replayed else (if leb c.replays (k + length (recent_replays c now xs)) then some ReplayFull else none)
+    if seen_in e (recent_replays c now xs) then Some Replayed else (if leb c.replays (k + length (recent_replays c now xs)) then Some ReplayFull else None)
 
 -- the walk stands at j of the n replays at `at`
 pub record Passing (o : Option Refusal) (c : Params) (now : ℕ) (e s : Bytes) (at n j k : ℕ) : Type 0 where
@@ -43,7 +42,7 @@ passing_start c now e s i n f h q =
     }
   where
     go : (xs : List Replay)
-        → (if seen_in e (recent_replays c now xs) then some Replayed else (if leb c.replays (length (recent_replays c now xs)) then some ReplayFull else none)) ≡ left_of c now e 0 xs
+        → (if seen_in e (recent_replays c now xs) then Some Replayed else (if leb c.replays (length (recent_replays c now xs)) then Some ReplayFull else None)) ≡ left_of c now e 0 xs
     go xs = let z : 0 + length (recent_replays c now xs) ≡ length (recent_replays c now xs) = omega arith in rw z
 
 module _ {o : Option Refusal} {c : Params} {now : ℕ} {e s : Bytes} {at n j k : ℕ} (a : Passing o c now e s at n j k) where
@@ -56,7 +55,7 @@ module _ {o : Option Refusal} {c : Params} {now : ℕ} {e s : Bytes} {at n j k :
       ∙ ap (λ (x : Replay). x ∷ drop (suc j) (map replay_of (take n (chunks replay_width replay_cap (take replays_len (drop at s)))))) (sym (ap view_replay (replay_here s at j (omega arith) (omega arith))))
 
   module _ (h : j < n) where
-    pub passing_hit : younger c.interval now (num (take 8 (drop (at + j * replay_width + at_seen) s))) ≡ true → same e (take 32 (drop (at + j * replay_width) s)) ≡ true → some Replayed ≡ o
+    pub passing_hit : younger c.interval now (num (take 8 (drop (at + j * replay_width + at_seen) s))) ≡ true → same e (take 32 (drop (at + j * replay_width) s)) ≡ true → Some Replayed ≡ o
     passing_hit y d = sym (a.left ∙ rw (here h, y, d))
 
     pub passing_live : younger c.interval now (num (take 8 (drop (at + j * replay_width + at_seen) s))) ≡ true → same e (take 32 (drop (at + j * replay_width) s)) ≡ false → Passing o c now e s at n (j + 1) (k + 1)
@@ -68,22 +67,22 @@ module _ {o : Option Refusal} {c : Params} {now : ℕ} {e s : Bytes} {at n j k :
       left = a.left ∙ rw (here h, y, d, add-one j) (go (recent_replays c now (drop (suc j) (map replay_of (take n (chunks replay_width replay_cap (take replays_len (drop at s))))))));
     }
       where
-        go : (xs : List Replay) → (if seen_in e xs then some Replayed else (if leb c.replays (k + suc (length xs)) then some ReplayFull else none))
-            ≡ (if seen_in e xs then some Replayed else (if leb c.replays (k + 1 + length xs) then some ReplayFull else none))
+        go : (xs : List Replay) → (if seen_in e xs then Some Replayed else (if leb c.replays (k + suc (length xs)) then Some ReplayFull else None))
+            ≡ (if seen_in e xs then Some Replayed else (if leb c.replays (k + 1 + length xs) then Some ReplayFull else None))
         go xs = let z : k + suc (length xs) ≡ k + 1 + length xs = omega arith in rw z
 
     pub passing_old : younger c.interval now (num (take 8 (drop (at + j * replay_width + at_seen) s))) ≡ false → Passing o c now e s at n (j + 1) k
     passing_old y = record { within = omega arith; small = a.small; few = omega arith; room = a.room; left = a.left ∙ rw (here h, y, add-one j) }
 
   module _ (h : n ≤ j) where
-    passed : o ≡ (if leb c.replays k then some ReplayFull else none)
+    passed : o ≡ (if leb c.replays k then Some ReplayFull else None)
     passed =
         let l = length_chunks replay_width replay_cap (take replays_len (drop at s)) in
         let z : k + 0 ≡ k = omega arith in
         a.left ∙ rw (drop_of_length-le (map replay_of (take n (chunks replay_width replay_cap (take replays_len (drop at s))))) {i = j} (rw (length_shows replay_of n (chunks replay_width replay_cap (take replays_len (drop at s))) (omega arith)) h), z)
 
-    pub passing_full : c.replays ≤ k → some ReplayFull ≡ o
+    pub passing_full : c.replays ≤ k → Some ReplayFull ≡ o
     passing_full q = sym (passed ∙ rw (le-leb c.replays k q))
 
-    pub passing_end : k < c.replays → none ≡ o
+    pub passing_end : k < c.replays → None ≡ o
     passing_end q = sym (passed ∙ rw (lt-leb c.replays k q))

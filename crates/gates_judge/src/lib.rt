@@ -1,217 +1,165 @@
 // The judgement of a msg1, from what is remembered of its peer where that stands.
 #![tactic(auto)]
 
-ghost use Rattle.std.specs.Prelude.{◌≡◌, ◌<◌, if◌then◌else◌};
-ghost use Rattle.std.proofs.Math.Option.{none, some};
-ghost use Rattle.rules.specs.Base.{option, or_else, Bytes};
+ghost use Rattle.std.specs.Prelude.{◌≡◌, ◌<◌};
+ghost use Rattle.rules.specs.Base.{option, Bytes};
 ghost use Rattle.rules.specs.Gates as rule;
 ghost use Rattle.params.specs.View.{view_params};
 ghost use Rattle.gates_types.specs.View.{source_of, refused_by, held_of, view_liveness};
 ghost use Rattle.gates_entry.specs.View.{FitGates, gate_count, memory_at};
 
 use gates_entry::at::{
-    epoch_at, has_epoch_at, has_silence_at, has_stamp_at, has_until_at, replay_count_at, replay_is,
-    seen_at, stamp_at, until_at,
+    epoch_at, has_silence_at, replay_count_at, replay_is, seen_at, stamp_at, until_at,
 };
-use gates_types::{Liveness, Refusal, Source, Verdict};
+use gates_types::{Liveness, Refusal, Source};
 use node_addr::Digest;
 use params::Params;
 use params::time::younger;
 
-// Whether the silences of the i-th memory refuse a msg1 at an epoch.
+// Whether the silences of the i-th memory refuse a msg1 at an epoch. An unknown epoch is taken for this one.
+#[tactic(auto, using(crate::specs::Tests::silencing_is))]
 fn silencing(s: &[u8], i: usize, epoch: u64, clock: u64) -> bool
     requires fit_gates { FitGates s.now }
     requires i_bound { i < gate_count s.now }
-    ensures { result ≡ rule.silencing (some epoch) clock (memory_at s.now i) }
+    ensures { result ≡ rule.silencing (Some epoch) clock (memory_at s.now i) }
 {
-    if !has_silence_at(s, i) {
-        return false;
-    }
-    if !has_until_at(s, i) {
-        return false;
-    }
-    if until_at(s, i) <= clock {
-        return false;
-    }
-    if !has_epoch_at(s, i) {
-        return true;
-    }
-    epoch_at(s, i) == epoch
+    has_silence_at(s, i)
+        && until_at(s, i).is_some_and(|until| clock < until)
+        && epoch_at(s, i).unwrap_or(epoch) == epoch
 }
 
 // Whether they refuse what asks.
 pub fn silenced_at(s: &[u8], i: usize, source: Source, epoch: u64, clock: u64) -> bool
     requires fit_gates { FitGates s.now }
     requires i_bound { i < gate_count s.now }
-    ensures { result ≡ rule.silenced_for clock (source_of source) (some epoch) (memory_at s.now i) }
+    ensures { result ≡ rule.silenced_for clock (source_of source) (Some epoch) (memory_at s.now i) }
 {
-    match source {
-        Source::NotHeld => silencing(s, i, epoch, clock),
-        Source::Restart => false,
-        Source::Replacement => silencing(s, i, epoch, clock),
-        Source::OwnMsg2 => false,
-        Source::RekeyMsg2 => false,
-    }
+    matches!(source, Source::NotHeld | Source::Replacement) && silencing(s, i, epoch, clock)
 }
 
 // Whether what asks may be refused for the peering that it would end.
 fn gated(source: Source) -> bool
     ensures { result ≡ rule.gated (source_of source) }
 {
-    match source {
-        Source::NotHeld => false,
-        Source::Restart => true,
-        Source::Replacement => true,
-        Source::OwnMsg2 => false,
-        Source::RekeyMsg2 => false,
-    }
+    matches!(source, Source::Restart | Source::Replacement)
 }
 
-// The first refusal of two.
-fn first_of(a: Verdict, b: Verdict) -> Verdict
-    ensures { refused_by result ≡ or_else (refused_by a) (refused_by b) }
-{
-    match a {
-        Verdict::Pass => b,
-        Verdict::Refuse(r) => Verdict::Refuse(r),
-    }
-}
-
-// Over the replays of the i-th memory younger than the interval: the digest is among them, or there are as many as may be.
-fn replayed(s: &[u8], i: usize, digest: Digest, clock: u64, c: Params) -> Verdict
+// Over the replays of the i-th memory younger than the interval: the digest is among them, or there are as many as may be. One loop looks and counts, which no adapter does.
+fn replayed(s: &[u8], i: usize, digest: Digest, clock: u64, c: Params) -> Result<(), Refusal>
     requires fit_gates { FitGates s.now }
     requires i_bound { i < gate_count s.now }
     ensures { refused_by result ≡ rule.replayed (view_params c) clock digest.0 (memory_at s.now i) }
 {
     let n = replay_count_at(s, i);
-    let mut live: usize = 0;
-    let mut j = 0;
-    while j < n {
+    let mut live = 0;
+    for j in 0..n {
         if younger(c.interval, clock, seen_at(s, i, j)) {
             if replay_is(s, i, j, digest) {
-                return Verdict::Refuse(Refusal::Replayed);
+                return Err(Refusal::Replayed);
             }
             live += 1;
         }
-        j += 1;
     }
     if c.replays as usize <= live {
-        return Verdict::Refuse(Refusal::ReplayFull);
+        return Err(Refusal::ReplayFull);
     }
-    Verdict::Pass
-}
-
-// The same, asked only of a peering that is unheard.
-fn unheard_replayed(
-    s: &[u8],
-    i: usize,
-    l: Liveness,
-    digest: Digest,
-    clock: u64,
-    c: Params,
-) -> Verdict
-    requires fit_gates { FitGates s.now }
-    requires i_bound { i < gate_count s.now }
-    ensures { refused_by result ≡ (if l.heard then none else rule.replayed (view_params c) clock digest.0 (memory_at s.now i)) }
-{
-    if l.heard {
-        return Verdict::Pass;
-    }
-    replayed(s, i, digest, clock, c)
+    Ok(())
 }
 
 // When the peering was last alive: its last frame, else its installation.
 fn alive_at(l: Liveness) -> u64
     ensures { result ≡ option (held_of l).last (held_of l).installed (λ x. x) }
 {
-    if l.has_last {
-        return l.last;
-    }
-    l.installed
+    l.last.unwrap_or(l.installed)
 }
 
 // The peering is too young to be given up: one heard within the interval, one unheard younger than `unheard`.
-fn young(l: Liveness, clock: u64, c: Params) -> Verdict
+#[tactic(auto, unfolding(rules::specs::Gates::young))]
+fn young(l: Liveness, clock: u64, c: Params) -> Result<(), Refusal>
     ensures { refused_by result ≡ rule.young (view_params c) clock (held_of l) }
 {
     if l.heard {
-        let from = alive_at(l);
-        if younger(c.interval, clock, from) {
-            return Verdict::Refuse(Refusal::Heard);
+        if younger(c.interval, clock, alive_at(l)) {
+            return Err(Refusal::Heard);
         }
-        return Verdict::Pass;
+    } else if younger(c.unheard, clock, l.installed) {
+        return Err(Refusal::Unheard);
     }
-    if younger(c.unheard, clock, l.installed) {
-        return Verdict::Refuse(Refusal::Unheard);
-    }
-    Verdict::Pass
+    Ok(())
 }
 
 // A heard peering was given up within the interval.
-fn dampened(s: &[u8], i: usize, clock: u64, c: Params) -> Verdict
+#[tactic(auto, using(crate::specs::Tests::dampened_is))]
+fn dampened(s: &[u8], i: usize, clock: u64, c: Params) -> Result<(), Refusal>
     requires fit_gates { FitGates s.now }
     requires i_bound { i < gate_count s.now }
     ensures { refused_by result ≡ rule.dampened (view_params c) clock (memory_at s.now i) }
 {
-    if !has_stamp_at(s, i) {
-        return Verdict::Pass;
+    match stamp_at(s, i) {
+        Some(stamp) if younger(c.interval, clock, stamp) => Err(Refusal::Dampened),
+        _ => Ok(()),
     }
-    if younger(c.interval, clock, stamp_at(s, i)) {
-        return Verdict::Refuse(Refusal::Dampened);
-    }
-    Verdict::Pass
 }
 
-// The replays, the floors and the dampener, in this order.
-fn judge(s: &[u8], i: usize, l: Liveness, digest: Digest, clock: u64, c: Params) -> Verdict
-    requires fit_gates { FitGates s.now }
-    requires i_bound { i < gate_count s.now }
-    ensures { refused_by result ≡ rule.judge (view_params c) clock (some digest.0) (held_of l) (memory_at s.now i) }
-{
-    let a = unheard_replayed(s, i, l, digest, clock, c);
-    let b = young(l, clock, c);
-    let d = dampened(s, i, clock, c);
-    let e = first_of(b, d);
-    first_of(a, e)
-}
-
-// The other judgements of what asks, by the i-th memory.
-pub fn judged_at(
+// The replays of a peering that is unheard, the floors and the dampener, in this order.
+#[tactic(auto, unfolding(rules::specs::Gates::judge))]
+fn judge(
     s: &[u8],
     i: usize,
-    source: Source,
     l: Liveness,
     digest: Digest,
     clock: u64,
     c: Params,
-) -> Verdict
+) -> Result<(), Refusal>
+    requires fit_gates { FitGates s.now }
+    requires i_bound { i < gate_count s.now }
+    ensures { refused_by result ≡ rule.judge (view_params c) clock (Some digest.0) (held_of l) (memory_at s.now i) }
+{
+    if !l.heard {
+        replayed(s, i, digest, clock, c)?;
+    }
+    young(l, clock, c)?;
+    dampened(s, i, clock, c)
+}
+
+// The other judgements of what asks, by the i-th memory.
+#[tactic(auto, unfolding(rules::specs::Gates::judged))]
+pub fn judged_at(
+    s: &[u8],
+    i: usize,
+    source: Source,
+    l: Option<Liveness>,
+    digest: Digest,
+    clock: u64,
+    c: Params,
+) -> Result<(), Refusal>
     requires fit_gates { FitGates s.now }
     requires i_bound { i < gate_count s.now }
     ensures { refused_by result ≡ rule.judged (view_params c) clock (source_of source) (view_liveness l) digest.0 (memory_at s.now i) }
 {
-    if !l.held {
-        return Verdict::Pass;
+    match l {
+        Some(l) if gated(source) => judge(s, i, l, digest, clock, c),
+        _ => Ok(()),
     }
-    if !gated(source) {
-        return Verdict::Pass;
-    }
-    judge(s, i, l, digest, clock, c)
 }
 
 // The same where nothing is remembered of the peer, whatever the digest.
-pub fn judged_blank(source: Source, l: Liveness, clock: u64, c: Params) -> Verdict
+#[tactic(auto, using(crate::specs::Tests::blank_judged))]
+pub fn judged_blank(
+    source: Source,
+    l: Option<Liveness>,
+    clock: u64,
+    c: Params,
+) -> Result<(), Refusal>
     ensures { (p d : Bytes) → refused_by result ≡ rule.judged (view_params c) clock (source_of source) (view_liveness l) d (rule.blank p) }
 {
-    if !l.held {
-        return Verdict::Pass;
-    }
-    if !gated(source) {
-        return Verdict::Pass;
-    }
-    if !l.heard {
-        if c.replays == 0 {
-            return Verdict::Refuse(Refusal::ReplayFull);
+    match l {
+        Some(l) if gated(source) => {
+            if !l.heard && c.replays == 0 {
+                return Err(Refusal::ReplayFull);
+            }
+            young(l, clock, c)
         }
+        _ => Ok(()),
     }
-    young(l, clock, c)
 }

@@ -3,16 +3,17 @@
 
 pub mod counted;
 
-ghost use Rattle.std.specs.Prelude.{◌≡◌, false, ◌≤◌};
-ghost use Rattle.std.proofs.Math.Option.{some};
+ghost use Rattle.std.specs.Prelude.{◌≡◌, false, ◌≤◌, option_map};
 ghost use Rattle.rules.specs.Base.{option, any, same};
+ghost use Rattle.rules.specs.Bounds.{IfAny};
 ghost use Rattle.rules.specs.Gates as rule;
 ghost use Rattle.params.specs.View.{view_params};
-ghost use Rattle.gates_types.specs.View.{optional, view_digests, view_silence, FitDigests, FitSilence, FitParams};
+ghost use Rattle.arrayvec.specs.ArrayVec.{array_vec_len};
+ghost use Rattle.gates_types.specs.View.{view_digest, view_digests, view_silence, FitDigests, FitSilence, FitParams};
 ghost use Rattle.gates_silence.specs.Silences.{new_silence, ended_in};
 
 use crate::counted::{counted_in, counted_with};
-use gates_types::{Digests, Silence, no_digests};
+use gates_types::{Digests, Silence};
 use node_addr::Digest;
 use params::Params;
 use params::time::{backoff, deadline, one_more};
@@ -21,125 +22,98 @@ use params::time::{backoff, deadline, one_more};
 fn new_silence(epoch: u64, clock: u64) -> Silence
     ensures fit_silence { FitSilence result }
     ensures result_value { view_silence result ≡ new_silence epoch clock }
-    ensures len_value { result.counted.len ≡ 0 }
+    ensures len_value { array_vec_len result.counted ≡ 0 }
 {
-    let d = no_digests();
     Silence {
-        has_epoch: true,
-        epoch: epoch,
+        epoch: Some(epoch),
         count: 0,
         last: clock,
-        has_until: false,
-        until: 0,
-        counted: d,
+        until: None,
+        counted: Digests::new(),
     }
 }
 
-// The end of the refusal, else the last count.
-fn silent_since(s: Silence) -> u64
-    ensures { result ≡ option (view_silence s).until (view_silence s).last (λ u. u) }
+// Whether the horizon has passed the end of the refusal, else the last count.
+#[tactic(auto, unfolding(rules::specs::Gates::expired))]
+pub fn expired(s: &Silence, clock: u64, c: Params) -> bool
+    ensures { result ≡ rule.expired (view_params c) clock (view_silence s.now) }
 {
-    if s.has_until {
-        return s.until;
-    }
-    s.last
+    deadline(s.until.unwrap_or(s.last), c.horizon) <= clock
 }
 
-// Whether the horizon has passed.
-pub fn expired(s: Silence, clock: u64, c: Params) -> bool
-    ensures { result ≡ rule.expired (view_params c) clock (view_silence s) }
-{
-    let from = silent_since(s);
-    let end = deadline(from, c.horizon);
-    end <= clock
-}
-
-// The record that an ending is counted in: the one there (`has_silence`), or anew.
-pub fn counting(s: Silence, has_silence: bool, epoch: u64, clock: u64, c: Params) -> Silence
-    requires { FitSilence s }
+// The record that an ending is counted in: the one there, or anew where it has expired or is of another epoch. An unknown epoch is taken for this one.
+pub fn counting(s: Option<Silence>, epoch: u64, clock: u64, c: Params) -> Silence
+    requires { IfAny FitSilence s }
     ensures fit_silence { FitSilence result }
-    ensures result_value { view_silence result ≡ rule.counting (view_params c) clock (some epoch) (optional has_silence (view_silence s)) }
-    ensures len_le_len { result.counted.len ≤ s.counted.len }
+    ensures result_value { view_silence result ≡ rule.counting (view_params c) clock (Some epoch) (option_map view_silence s) }
+    ensures len_le_len { array_vec_len result.counted ≤ option s 0 (λ x. array_vec_len x.counted) }
 {
-    if !has_silence {
-        return new_silence(epoch, clock);
+    match s {
+        Some(mut r) if !expired(&r, clock, c) && r.epoch.unwrap_or(epoch) == epoch => {
+            r.epoch = Some(epoch);
+            r
+        }
+        _ => new_silence(epoch, clock),
     }
-    if expired(s, clock, c) {
-        return new_silence(epoch, clock);
-    }
-    if !s.has_epoch {
-        let mut out = s;
-        out.has_epoch = true;
-        out.epoch = epoch;
-        return out;
-    }
-    if s.epoch != epoch {
-        return new_silence(epoch, clock);
-    }
-    s
 }
 
 // Whether the session's digest was counted already.
-fn already(r: Digests, has_setup: bool, setup: Digest) -> bool
-    requires { FitDigests r }
-    ensures { result ≡ option (optional has_setup setup.0) false (λ e. any (same e) (view_digests r)) }
+fn already(r: &Digests, setup: Option<Digest>) -> bool
+    ensures { result ≡ option (option_map view_digest setup) false (λ e. any (same e) (view_digests r.now)) }
 {
-    if has_setup {
-        return counted_in(r, setup);
-    }
-    false
+    setup.is_some_and(|e| counted_in(r, e))
 }
 
 // The digests with the session's.
-fn counted_too(r: Digests, has_setup: bool, setup: Digest, c: Params) -> Digests
+#[tactic(auto, unfolding(rules::specs::Gates::counted_with))]
+fn counted_too(r: Digests, setup: Option<Digest>, c: Params) -> Digests
     requires fit_digests { FitDigests r }
     requires fit_params { FitParams c }
-    requires len_le_counted { r.len ≤ c.counted }
+    requires len_le_counted { array_vec_len r ≤ c.counted }
     ensures fit_digests_2 { FitDigests result }
-    ensures result_value { view_digests result ≡ rule.counted_with (view_params c) (optional has_setup setup.0) (view_digests r) }
+    ensures result_value { view_digests result ≡ rule.counted_with (view_params c) (option_map view_digest setup) (view_digests r) }
 {
-    if has_setup {
-        return counted_with(r, setup, c.counted as usize);
+    match setup {
+        Some(e) => counted_with(r, e, c.counted as usize),
+        None => r,
     }
-    r
 }
 
 // One more silence; from so many on a msg1 is refused for a while.
-fn silenced(s: Silence, has_setup: bool, setup: Digest, clock: u64, c: Params) -> Silence
+#[tactic(auto, unfolding(rules::specs::Gates::silenced))]
+fn silenced(s: Silence, setup: Option<Digest>, clock: u64, c: Params) -> Silence
     requires fit_silence { FitSilence s }
     requires fit_params { FitParams c }
-    requires len_le_counted { s.counted.len ≤ c.counted }
+    requires len_le_counted { array_vec_len s.counted ≤ c.counted }
     ensures fit_silence_2 { FitSilence result }
-    ensures result_value { view_silence result ≡ rule.silenced (view_params c) clock (optional has_setup setup.0) (view_silence s) }
+    ensures result_value { view_silence result ≡ rule.silenced (view_params c) clock (option_map view_digest setup) (view_silence s) }
 {
-    let held = s.counted;
-    let digests = counted_too(held, has_setup, setup, c);
-    let n = one_more(s.count);
-    let mut out = s;
-    out.count = n;
-    out.last = clock;
-    out.counted = digests;
-    if n < c.silent {
-        return out;
+    let count = one_more(s.count);
+    let until = if count < c.silent {
+        s.until
+    } else {
+        Some(deadline(clock, backoff(count - c.silent, c.silentbase, c.silentcap)))
+    };
+    Silence {
+        count,
+        last: clock,
+        until,
+        counted: counted_too(s.counted, setup, c),
+        ..s
     }
-    let span = backoff(n - c.silent, c.silentbase, c.silentcap);
-    let until = deadline(clock, span);
-    out.has_until = true;
-    out.until = until;
-    out
 }
 
 // An ending counted, unless its digest was counted already.
-pub fn ended_in(s: Silence, has_setup: bool, setup: Digest, clock: u64, c: Params) -> Silence
+pub fn ended_in(s: Silence, setup: Option<Digest>, clock: u64, c: Params) -> Silence
     requires fit_silence { FitSilence s }
     requires fit_params { FitParams c }
-    requires len_le_counted { s.counted.len ≤ c.counted }
+    requires len_le_counted { array_vec_len s.counted ≤ c.counted }
     ensures fit_silence_2 { FitSilence result }
-    ensures result_value { view_silence result ≡ ended_in (view_params c) clock (optional has_setup setup.0) (view_silence s) }
+    ensures result_value { view_silence result ≡ ended_in (view_params c) clock (option_map view_digest setup) (view_silence s) }
 {
-    let held = s.counted;
-    if already(held, has_setup, setup) {
-        return s;
+    if already(&s.counted, setup) {
+        s
+    } else {
+        silenced(s, setup, clock, c)
     }
-    silenced(s, has_setup, setup, clock, c)
 }

@@ -1,26 +1,16 @@
 -- What single cells of the i-th held peer show, where they stand.
-use Rattle.std.specs.Prelude.{◌≡◌, refl, Bool, true, false, ℕ, ◌+◌, ◌*◌, ◌<◌, take, drop, replicate, if◌then◌else◌}
-use Rattle.std.proofs.Common.{sym, ap, ◌∙◌, add-zero}
-use Rattle.std.proofs.Math.Option.{none, some}
-use Rattle.rules.specs.Base.{is, Bytes, same}
+use Rattle.std.specs.Prelude.{◌≡◌, Bool, ℕ, ◌+◌, ◌*◌, ◌<◌, take, drop}
+use Rattle.std.proofs.Common.{sym, ap, ◌∙◌, add-zero, arith}
+use Rattle.rules.specs.Base.{Bytes, same}
 use Rattle.rules.specs.Std.{before}
 use Rattle.rules.specs.Data.{Pair, same_pair, Held}
 use Rattle.rules.specs.Settle.{named}
-use Rattle.lib_laws.specs.Cell.{num, flag_of, or_blank}
+use Rattle.lib_laws.specs.Cell.{num, flag_of, option_num, option_bytes}
 use Rattle.node_addr.specs.Place.{pair_of, PairCell}
 use Rattle.node_addr.specs.Layout.{pair_width}
 use Rattle.held.specs.Layout.{at_current, at_has_last, at_has_setup, at_heard, at_held_epoch, at_held_link, at_held_setup, at_installed, at_last, held_width}
-use Rattle.held.specs.View.{FitHeld, held_count, nth_held, last_heard, setup_of}
-use Rattle.held.specs.Entry.{num_zeros, fit_here, held_here}
-
--- where a flag says whether there is a value
-is_flag : {A : Type 0} (x : Bool) (v : A) → x ≡ is (if x then some v else none)
-is_flag true v = refl
-is_flag false v = refl
-
-value_is : {A : Type 0} (x : Bool) (v z : A) → (x ≡ false → v ≡ z) → v ≡ or_blank z (if x then some v else none)
-value_is true v z b = refl
-value_is false v z b = b refl
+use Rattle.held.specs.View.{FitHeld, held_count, nth_held}
+use Rattle.held.specs.Entry.{fit_here, held_here}
 
 -- p comes before it in the order of addresses
 abbrev pub precedes : Bytes → Held → Bool
@@ -48,21 +38,11 @@ module _ {s : Bytes} {i : ℕ} (f : FitHeld s) (h : i < held_count s) where
   pub heard_here : flag_of (take 1 (drop (i * held_width + at_heard) s)) ≡ (nth_held s i).heard
   heard_here = ap (λ (k : Held). k.heard) (held_here s i f h)
 
-  pub dated_here : flag_of (take 1 (drop (i * held_width + at_has_last) s)) ≡ is (nth_held s i).last
-  dated_here = is_flag (flag_of (take 1 (drop (i * held_width + at_has_last) s))) (num (take 8 (drop (i * held_width + at_last) s))) ∙ ap (λ (k : Held). is k.last) (held_here s i f h)
+  pub last_here : option_num (take 1 (drop (i * held_width + at_has_last) s)) (take 8 (drop (i * held_width + at_has_last + 1) s)) ≡ (nth_held s i).last
+  last_here = let e : i * held_width + at_has_last + 1 ≡ i * held_width + at_last = omega arith in rw e (ap (λ (k : Held). k.last) (held_here s i f h))
 
-  pub last_here : num (take 8 (drop (i * held_width + at_last) s)) ≡ last_heard (nth_held s i)
-  last_here =
-      value_is (flag_of (take 1 (drop (i * held_width + at_has_last) s))) (num (take 8 (drop (i * held_width + at_last) s))) 0 (λ e. ap num ((fit_here s i f h).last.blank e) ∙ num_zeros)
-      ∙ ap last_heard (held_here s i f h)
-
-  pub answered_here : flag_of (take 1 (drop (i * held_width + at_has_setup) s)) ≡ is (nth_held s i).setup
-  answered_here = is_flag (flag_of (take 1 (drop (i * held_width + at_has_setup) s))) (take 32 (drop (i * held_width + at_held_setup) s)) ∙ ap (λ (k : Held). is k.setup) (held_here s i f h)
-
-  pub setup_here : take 32 (drop (i * held_width + at_held_setup) s) ≡ setup_of (nth_held s i)
-  setup_here =
-      value_is (flag_of (take 1 (drop (i * held_width + at_has_setup) s))) (take 32 (drop (i * held_width + at_held_setup) s)) (replicate 32 0) (fit_here s i f h).setup.blank
-      ∙ ap setup_of (held_here s i f h)
+  pub setup_here : option_bytes (take 1 (drop (i * held_width + at_has_setup) s)) (take 32 (drop (i * held_width + at_has_setup + 1) s)) ≡ (nth_held s i).setup
+  setup_here = let e : i * held_width + at_has_setup + 1 ≡ i * held_width + at_held_setup = omega arith in rw e (ap (λ (k : Held). k.setup) (held_here s i f h))
 
   pub current_here : pair_of (take pair_width (drop (i * held_width + at_current) s)) ≡ (nth_held s i).current
   current_here = ap (λ (k : Held). k.current) (held_here s i f h)

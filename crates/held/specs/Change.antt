@@ -1,8 +1,7 @@
 -- What a change of some cells of one entry makes of the region: the epoch, the link, heard, last, the current pair; and changes in a row.
-use Rattle.std.specs.Prelude.{◌≡◌, Bool, true, false, ◌&&◌, ℕ, ◌+◌, ◌*◌, ◌<◌, eqb}
+use Rattle.std.specs.Prelude.{◌≡◌, Bool, true, false, ◌&&◌, ℕ, ◌+◌, ◌*◌, ◌<◌, eqb, Some}
 use Rattle.std.proofs.Math.Path.{refl, ap}
 use Rattle.std.proofs.Common.{sym, ap₂, ◌∙◌, subst, arith, eqb-true, lit≤, lit<, set-set, get_or-set_same, length-set, Fits}
-use Rattle.std.proofs.Math.Option.{some}
 use mathlib.Core.List.{List, [], ◌∷◌, ◌++◌}
 use Rattle.std.proofs.lemmas.List.{set-get_or}
 use Rattle.std.proofs.Math.ListN.{length, set}
@@ -14,17 +13,16 @@ use Rattle.rules.specs.Settle.{with_epoch}
 use Rattle.lib_laws.specs.Beside.{same_true}
 use Rattle.lib_laws.specs.Splice.{splice, splice_splice, length_splice, length_digits, Wrote}
 use Rattle.lib_laws.specs.Round.{more_digits}
-use Rattle.lib_laws.specs.Cell.{flag_shows, flag_code}
+use Rattle.lib_laws.specs.Cell.{flag_shows, flag_code, optional_number}
 use Rattle.lib_laws.specs.Fields.{cuts, cuts_set, sum}
 use Rattle.lib_laws.specs.Store.{changed_is}
-use Rattle.node_addr.specs.View.{view_pair, FitPair}
+use Rattle.node_addr.specs.View.{view_pair}
 use Rattle.node_addr.specs.Place.{pair_cell}
 use Rattle.node_addr.proofs.Cells.{pair_cell_length, pair_cell_fit, pair_cell_shows}
 use Rattle.node_addr.specs.declared.Pair as pair
 use Rattle.node_addr.specs.Layout.{pair_width}
 use Rattle.held.specs.Layout.{held_ws, at_current, at_has_last, at_heard, at_held_epoch, at_held_link, held_width, at_last}
 use Rattle.held.specs.View.{held_from, held_of, FitCells, FitHeldCell, view_held, FitHeld, held_count, no_held, nth_held}
-use Rattle.held.specs.Entry.{optional_number}
 use Rattle.held.specs.Walk.{count_is}
 
 -- ---- a held peer with one part changed
@@ -35,7 +33,7 @@ abbrev pub with_heard : Bool → Held → Held
 with_heard b h = record { peer = h.peer; link = h.link; epoch = h.epoch; current = h.current; heard = b; installed = h.installed; last = h.last; setup = h.setup }
 
 abbrev pub last_at : ℕ → Held → Held
-last_at t h = record { peer = h.peer; link = h.link; epoch = h.epoch; current = h.current; heard = h.heard; installed = h.installed; last = some t; setup = h.setup }
+last_at t h = record { peer = h.peer; link = h.link; epoch = h.epoch; current = h.current; heard = h.heard; installed = h.installed; last = Some t; setup = h.setup }
 
 abbrev pub with_current : Pair → Held → Held
 with_current p h = record { peer = h.peer; link = h.link; epoch = h.epoch; current = p; heard = h.heard; installed = h.installed; last = h.last; setup = h.setup }
@@ -96,21 +94,21 @@ module _ (c : Bytes) (z : length c ≡ held_width) where
       ∙ ap (λ (x : List Bytes). set x 6 (digits 8 v)) (cuts_set 0 0 held_ws c 5 at_has_last (1 ∷ []) (lit< tt) (omega arith) refl refl)
 
   last_keeps : (v : ℕ) → FitHeldCell c → FitHeldCell (splice c at_has_last ((1 ∷ []) ++ digits 8 v))
-  last_keeps v f = subst FitCells (sym (last_cuts v)) (record { heard = f.heard; last = optional_number true v (λ e. cc); setup = f.setup; current = f.current })
+  last_keeps v f = subst FitCells (sym (last_cuts v)) (record { heard = f.heard; last = optional_number (Some v); setup = f.setup; current = f.current })
 
   last_shows : (v : ℕ) → Fits w64 v → held_of (splice c at_has_last ((1 ∷ []) ++ digits 8 v)) ≡ last_at v (held_of c)
   last_shows v b = ap held_from (last_cuts v) ∙ rw (more_digits 8 v b.fits)
 
-  module _ {p : pair.Pair} (k : FitPair p) where
+  module _ (p : pair.Pair) where
     current_cuts : cuts 0 0 held_ws (splice c at_current (pair_cell p)) ≡ set (cuts 0 0 held_ws c) 9 (pair_cell p)
     unfolding sum
-    current_cuts = cuts_set 0 0 held_ws c 9 at_current (pair_cell p) (lit< tt) (omega arith) (pair_cell_length k) refl
+    current_cuts = cuts_set 0 0 held_ws c 9 at_current (pair_cell p) (lit< tt) (omega arith) (pair_cell_length p) refl
 
     current_keeps : FitHeldCell c → FitHeldCell (splice c at_current (pair_cell p))
-    current_keeps f = subst FitCells (sym current_cuts) (record { heard = f.heard; last = f.last; setup = f.setup; current = pair_cell_fit k })
+    current_keeps f = subst FitCells (sym current_cuts) (record { heard = f.heard; last = f.last; setup = f.setup; current = pair_cell_fit p })
 
     current_shows : Fits w32 p.transport.0 → held_of (splice c at_current (pair_cell p)) ≡ with_current (view_pair p) (held_of c)
-    current_shows b = ap held_from current_cuts ∙ rw (pair_cell_shows k b)
+    current_shows b = ap held_from current_cuts ∙ rw (pair_cell_shows p b)
 
 -- ---- the same of the region
 module _ {s l : Bytes} {q : ℕ} (i : ℕ) where
@@ -127,10 +125,10 @@ module _ {s l : Bytes} {q : ℕ} (i : ℕ) where
   pub last_changed : {v : ℕ} → Wrote s (i * held_width + at_has_last) 9 ((1 ∷ []) ++ digits 8 v) l q → FitHeld s → i < held_count s → Fits w64 v → Changed (last_at v) i s l
   last_changed {v} a f h b = changed f (changed_is held_of (last_at v) i at_has_last no_held a f h (lit≤ tt) (λ c z k. last_keeps c z v k) (λ c z. last_shows c z v b))
 
-  pub current_changed : {p : pair.Pair} → FitPair p → Wrote s (i * held_width + at_current) pair_width (pair_cell p) l q → FitHeld s → i < held_count s → Fits w32 p.transport.0
+  pub current_changed : (p : pair.Pair) → Wrote s (i * held_width + at_current) pair_width (pair_cell p) l q → FitHeld s → i < held_count s → Fits w32 p.transport.0
       → Changed (with_current (view_pair p)) i s l
-  current_changed {p} k a f h b =
-      changed f (changed_is held_of (with_current (view_pair p)) i at_current no_held a f h (lit≤ tt) (λ c z y. current_keeps c z k y) (λ c z. current_shows c z k b))
+  current_changed p a f h b =
+      changed f (changed_is held_of (with_current (view_pair p)) i at_current no_held a f h (lit≤ tt) (λ c z y. current_keeps c z p y) (λ c z. current_shows c z p b))
 
 -- ---- the current pair is the one that is to be written
 abbrev pair_from : ℕ → Bytes → Pair

@@ -1,11 +1,11 @@
 -- The bytes of a held peer: what is written, and one that was read at a place is the one that the region shows there.
-use Rattle.std.specs.Prelude.{◌≡◌, refl, Bool, true, false, List, [], ◌∷◌, ◌++◌, ℕ, ◌+◌, ◌*◌, ◌<◌, get_or, replicate}
+use Rattle.std.specs.Prelude.{◌≡◌, List, [], ◌∷◌, ◌++◌, ℕ, ◌*◌, ◌<◌, get_or, replicate, Option, option_map}
 use Rattle.std.proofs.Common.{sym, ap, ◌∙◌, subst, append_assoc, append-nil, arith, lit≤}
 use Rattle.rules.specs.Base.{one, Bytes}
-use Rattle.rules.specs.Field.{more, digits}
+use Rattle.rules.specs.Field.{digits}
 use Rattle.lib_laws.specs.Shift.{fit_at, shown}
-use Rattle.lib_laws.specs.Splice.{length_digits, Wrote}
-use Rattle.lib_laws.specs.Cell.{num, Optional, flag_code}
+use Rattle.lib_laws.specs.Splice.{Wrote}
+use Rattle.lib_laws.specs.Cell.{or_blank, flag_cell, number_cells, bytes_cells}
 use Rattle.lib_laws.specs.Chunk.{chunks, joined}
 use Rattle.lib_laws.specs.Fields.{cuts, cuts_at, sum}
 use Rattle.node_addr.specs.Place.{pair_cell}
@@ -14,31 +14,26 @@ use Rattle.held.specs.declared.record.Held as held
 use Rattle.held.specs.View.{held_from, held_of, FitCells, FitHeld, held_count, no_held, nth_held}
 
 -- ---- what is written
+abbrev setup : held.Held → Option Bytes
+setup h = option_map (λ d. d.0) h.setup
+
 abbrev pub held_fields : held.Held → List Bytes
 held_fields h = h.peer.0 ∷ digits 8 h.link.0 ∷ digits 8 h.epoch ∷ digits 8 h.installed ∷ (one h.heard ∷ [])
-    ∷ (one h.has_last ∷ []) ∷ digits 8 h.last ∷ (one h.has_setup ∷ []) ∷ h.setup.0 ∷ pair_cell h.current ∷ []
+    ∷ flag_cell h.last ∷ digits 8 (or_blank 0 h.last) ∷ flag_cell (setup h) ∷ or_blank (replicate 32 0) (setup h) ∷ pair_cell h.current ∷ []
 
 unfoldable pub held_bytes : held.Held → Bytes
 held_bytes h = joined (held_fields h)
 
--- as the writers put it
-abbrev pub front_bytes : held.Held → Bytes
-front_bytes h = h.peer.0 ++ digits 8 h.link.0 ++ digits 8 h.epoch ++ digits 8 h.installed ++ (one h.heard ∷ [])
+-- as the writer puts it
+abbrev put_bytes : held.Held → Bytes
+put_bytes h = h.peer.0 ++ digits 8 h.link.0 ++ digits 8 h.epoch ++ digits 8 h.installed ++ (one h.heard ∷ []) ++ number_cells h.last ++ bytes_cells 32 (setup h) ++ pair_cell h.current
 
-abbrev pub back_bytes : held.Held → Bytes
-back_bytes h = (one h.has_last ∷ []) ++ digits 8 h.last ++ (one h.has_setup ∷ []) ++ h.setup.0 ++ pair_cell h.current
-
-bytes_are : (h : held.Held) → front_bytes h ++ back_bytes h ≡ held_bytes h
+bytes_are : (h : held.Held) → put_bytes h ≡ held_bytes h
 unfolding held_bytes joined
 bytes_are h = simp (append_assoc, append-nil)
 
-pub put_held_is : (h : held.Held) {xs : Bytes} {at : ℕ} {ys : Bytes} {r : ℕ} → Wrote xs at held_width (front_bytes h ++ back_bytes h) ys r → Wrote xs at held_width (held_bytes h) ys r
+pub put_held_is : (h : held.Held) {xs : Bytes} {at : ℕ} {ys : Bytes} {r : ℕ} → Wrote xs at held_width (put_bytes h) ys r → Wrote xs at held_width (held_bytes h) ys r
 put_held_is h {xs} {at} {ys} {r} w = subst (λ (b : Bytes). Wrote xs at held_width b ys r) (bytes_are h) w
-
-pub optional_number : (b : Bool) (v : ℕ) → (b ≡ false → v ≡ 0) → Optional 8 (one b ∷ []) (digits 8 v)
-unfolding digits
-optional_number true v h = record { flag = flag_code true; size = length_digits 8 v; blank = λ e. cc }
-optional_number false v h = record { flag = flag_code false; size = length_digits 8 v; blank = λ e. rw (h refl) }
 
 -- ---- the cells of the i-th held peer, where they stand
 pub cells_here : (s : Bytes) (i : ℕ) → FitHeld s → i < held_count s → cuts (i * held_width) 0 held_ws s ≡ cuts 0 0 held_ws (get_or (chunks held_width held_cap s) i [])
@@ -50,7 +45,3 @@ fit_here s i f h = subst FitCells (sym (cells_here s i f h)) (fit_at held_of i [
 
 pub held_here : (s : Bytes) (i : ℕ) → FitHeld s → i < held_count s → held_from (cuts (i * held_width) 0 held_ws s) ≡ nth_held s i
 held_here s i f h = ap held_from (cells_here s i f h) ∙ shown held_of i [] no_held f.kept h
-
-pub num_zeros : num (replicate 8 0) ≡ 0
-unfolding more
-num_zeros = refl

@@ -1,13 +1,12 @@
 -- What the bytes of an entry, a region and a held peer by value show, and their canonical form.
-use Rattle.std.specs.Prelude.{◌≡◌, refl, false, List, [], ◌∷◌, ℕ, length, get_or, replicate, if◌then◌else◌}
-use Rattle.std.proofs.Math.Option.{none, some}
+use Rattle.std.specs.Prelude.{refl, List, [], ℕ, get_or, replicate, option_map}
 use Rattle.std.proofs.Common.{lit<}
 use Rattle.rules.specs.Base.{Bytes}
 use Rattle.rules.specs.Data.{Held}
-use Rattle.lib_laws.specs.Cell.{num, flag_of, option_num, option_bytes, Code, Optional, or_blank}
+use Rattle.lib_laws.specs.Cell.{num, flag_of, option_num, option_bytes, Code, Optional}
 use Rattle.lib_laws.specs.Fields.{cuts}
 use Rattle.lib_laws.specs.Store.{Store, entries}
-use Rattle.node_addr.specs.View.{view_pair, FitPair}
+use Rattle.node_addr.specs.View.{view_pair}
 use Rattle.node_addr.specs.Place.{pair_of, PairCell}
 use Rattle.node_addr.proofs.Cells.{pair_zeros}
 use Rattle.held.specs.Layout.{held_ws, at_held_count, held_cap, held_width}
@@ -47,6 +46,7 @@ FitHeldCell c = FitCells (cuts 0 0 held_ws c)
 abbrev pub view_held : Bytes → List Held
 view_held s = entries held_of held_width held_cap s
 
+-- a clause of each function that is lent the region: a struct that lends it would ask of each caller that the reference within keeps its name
 abbrev pub FitHeld : Bytes → Type 0
 FitHeld s = Store FitHeldCell held_width held_cap s
 
@@ -78,21 +78,6 @@ view_rec h = record {
   current = view_pair h.current;
   heard = h.heard;
   installed = h.installed;
-  last = if h.has_last then some h.last else none;
-  setup = if h.has_setup then some h.setup.0 else none;
+  last = h.last;
+  setup = option_map (λ d. d.0) h.setup;
 }
-
-pub record FitRec (h : held.Held) : Type 0 where
-  pub peer : length h.peer.0 ≡ 16
-  pub setup : length h.setup.0 ≡ 32
-  pub current : FitPair h.current
-  pub undated : h.has_last ≡ false → h.last ≡ 0
-  pub unanswered : h.has_setup ≡ false → h.setup.0 ≡ replicate 32 0
-
--- when the peer was last heard, 0 if never
-abbrev pub last_heard : Held → ℕ
-last_heard h = or_blank 0 h.last
-
--- the digest of the msg1 that was answered, zeros if none was
-abbrev pub setup_of : Held → Bytes
-setup_of h = or_blank (replicate 32 0) h.setup

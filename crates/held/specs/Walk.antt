@@ -1,14 +1,13 @@
--- Loops over the held peers: the search for a peer, and for the place where one belongs; what a place found says of the list.
-use Rattle.std.specs.Prelude.{◌≡◌, refl, Bool, true, false, [], ℕ, ◌+◌, ◌≤◌, ◌<◌, length, set}
+-- Loops over the held peers: the search for a peer, and for the place where one belongs; a place found lies within.
+use Rattle.std.specs.Prelude.{◌≡◌, refl, Bool, true, false, [], ℕ, ◌+◌, ◌≤◌, ◌<◌, length, None, Option, Some}
 use Rattle.std.proofs.Common.{sym, ap, ◌∙◌, arith}
-use Rattle.std.proofs.Math.Option.{Option, none, some}
-use Rattle.rules.specs.Base.{option, Bytes, without, alter}
+use Rattle.rules.specs.Base.{option, Bytes}
 use Rattle.rules.specs.Std as std
 use Rattle.rules.specs.Data.{Held}
 use Rattle.rules.specs.Settle.{named, earlier_held}
-use Rattle.lib_laws.specs.Shift.{shown, erase, insert}
+use Rattle.lib_laws.specs.Shift.{shown, insert}
 use Rattle.lib_laws.specs.Scan.{scan, Ahead, scan_hit, scan_skip, scan_end, scan_within, length_shows}
-use Rattle.lib_laws.specs.Place.{without_at, without_nowhere, alter_at, alter_nowhere, insert_at, insert_last, insert_end}
+use Rattle.lib_laws.specs.Place.{insert_at, insert_last, insert_end}
 use Rattle.lib_laws.specs.Chunk.{chunks}
 use Rattle.held.specs.Layout.{held_cap, held_width}
 use Rattle.held.specs.View.{held_of, view_held, FitHeld, held_count, no_held, nth_held}
@@ -27,7 +26,7 @@ pub scanning_start : {s : Bytes} {n : ℕ} (t : Held → Bool) → FitHeld s →
 scanning_start t f e = record { fit = f; count = e; ahead = record { within = omega arith; room = omega arith; left = refl } }
 
 module _ {o : Option ℕ} {t : Held → Bool} {s : Bytes} {n i : ℕ} (a : Scanning o t s n i) where
-  pub scanning_hit : i < n → t (nth_held s i) ≡ true → o ≡ some i
+  pub scanning_hit : i < n → t (nth_held s i) ≡ true → o ≡ Some i
   scanning_hit h e = scan_hit a.ahead [] (omega arith) (ap t (shown held_of i [] no_held a.fit.kept (omega arith)) ∙ e)
 
   pub scanning_skip : i < n → t (nth_held s i) ≡ false → Scanning o t s n (i + 1)
@@ -37,7 +36,7 @@ module _ {o : Option ℕ} {t : Held → Bool} {s : Bytes} {n i : ℕ} (a : Scann
     ahead = scan_skip a.ahead [] (omega arith) (ap t (shown held_of i [] no_held a.fit.kept (omega arith)) ∙ e);
   }
 
-  pub scanning_end : n ≤ i → o ≡ none
+  pub scanning_end : n ≤ i → o ≡ None
   scanning_end h = scan_end a.ahead (omega arith)
 
 -- ---- r is where a peer p belongs
@@ -55,24 +54,9 @@ pub slot_insert : {s : Bytes} {r : ℕ} (h : Held) → Slot h.peer r s → FitHe
 slot_insert {s} {r} h a f = go (scan (earlier_held h) 0 (view_held s)) refl a.is
   where
     go : (o : Option ℕ) → scan (earlier_held h) 0 (view_held s) ≡ o → r ≡ option o (held_count s) (λ i. i) → std.insert earlier_held h (view_held s) ≡ insert r h (view_held s)
-    go none e q = insert_last earlier_held h (view_held s) e ∙ sym (insert_end r h (view_held s) (q ∙ sym (count_is f)))
-    go (some i) e q = insert_at earlier_held h (view_held s) i e ∙ ap (λ (k : ℕ). insert k h (view_held s)) (sym q)
+    go None e q = insert_last earlier_held h (view_held s) e ∙ sym (insert_end r h (view_held s) (q ∙ sym (count_is f)))
+    go (Some i) e q = insert_at earlier_held h (view_held s) i e ∙ ap (λ (k : ℕ). insert k h (view_held s)) (sym q)
 
--- ---- what a place found by a peer's address says of the rules' lists
-module _ (p : Bytes) where
-  pub found_within : {s : Bytes} {i : ℕ} → FitHeld s → scan (named p) 0 (view_held s) ≡ some i → i < held_count s
-  found_within {s} {i} f e = scan_within (named p) held_of (held_count s) (chunks held_width held_cap s) i (omega arith) e
-
-  pub dropped : {s l : Bytes} {i : ℕ} → FitHeld s → FitHeld l → scan (named p) 0 (view_held s) ≡ some i → view_held l ≡ erase i (view_held s)
-      → FitHeld l × (view_held l ≡ without (named p) (view_held s))
-  dropped {s} {l} {i} f k e q = (k, q ∙ sym (without_at (named p) (view_held s) i e))
-
-  pub none_dropped : {s : Bytes} → FitHeld s → scan (named p) 0 (view_held s) ≡ none → FitHeld s × (view_held s ≡ without (named p) (view_held s))
-  none_dropped {s} f e = (f, sym (without_nowhere (named p) (view_held s) e))
-
-  pub altered : (g : Held → Held) {s l : Bytes} {i : ℕ} → FitHeld s → FitHeld l → scan (named p) 0 (view_held s) ≡ some i → view_held l ≡ set (view_held s) i (g (nth_held s i))
-      → FitHeld l × (view_held l ≡ alter (named p) g (view_held s))
-  altered g {s} {l} {i} f k e q = (k, q ∙ sym (alter_at (named p) (view_held s) i e g no_held))
-
-  pub none_altered : (g : Held → Held) {s : Bytes} → FitHeld s → scan (named p) 0 (view_held s) ≡ none → FitHeld s × (view_held s ≡ alter (named p) g (view_held s))
-  none_altered g {s} f e = (f, sym (alter_nowhere (named p) (view_held s) e g))
+-- ---- a place found by a peer's address
+pub found_within : (p : Bytes) {s : Bytes} {i : ℕ} → FitHeld s → scan (named p) 0 (view_held s) ≡ Some i → i < held_count s
+found_within p {s} {i} f e = scan_within (named p) held_of (held_count s) (chunks held_width held_cap s) i (omega arith) e

@@ -1,18 +1,15 @@
 // The i-th held peer: single cells read where they stand, and the whole.
-ghost use Rattle.std.specs.Prelude.{◌≡◌, ◌<◌, drop};
-ghost use Rattle.rules.specs.Base.{is};
+ghost use Rattle.std.specs.Prelude.{◌≡◌, ◌<◌, drop, option_map};
 ghost use Rattle.rules.specs.Data.{same_pair};
-ghost use Rattle.node_addr.specs.View.{view_pair, FitPair};
+ghost use Rattle.node_addr.specs.View.{view_pair};
 ghost use Rattle.node_addr.specs.Place.{pair_here, PairIn};
-ghost use Rattle.held.specs.View.{FitHeld, held_count, nth_held, last_heard, setup_of};
+ghost use Rattle.held.specs.View.{FitHeld, held_count, nth_held};
 
-use crate::layout::{
-    CURRENT, EPOCH, HAS_LAST, HAS_SETUP, HEARD, HELD_WIDTH, INSTALLED, LAST, LINK, SETUP,
-};
-use lib_bytes::flag::get_flag;
+use crate::layout::{CURRENT, EPOCH, HAS_LAST, HAS_SETUP, HEARD, HELD_WIDTH, INSTALLED, LINK};
+use lib_bytes::flag::{get_flag, get_option};
 use lib_bytes::layout::U64;
 use lib_bytes::read::get_be;
-use node_addr::place::{eq_pair_at, eq_wire_pair, load_digest, load_node};
+use node_addr::place::{eq_pair_at, eq_wire_pair, load_fixed, load_optional};
 use node_addr::{Digest, LinkNo, NodeAddr, Pair};
 
 pub fn peer_at(s: &[u8], i: usize) -> NodeAddr
@@ -20,7 +17,7 @@ pub fn peer_at(s: &[u8], i: usize) -> NodeAddr
     requires i_bound { i < held_count s.now }
     ensures { result.0 ≡ (nth_held s.now i).peer }
 {
-    load_node(s, i * HELD_WIDTH)
+    load_fixed(s, i * HELD_WIDTH)
 }
 
 pub fn link_at(s: &[u8], i: usize) -> LinkNo
@@ -28,8 +25,7 @@ pub fn link_at(s: &[u8], i: usize) -> LinkNo
     requires i_bound { i < held_count s.now }
     ensures { result.0 ≡ (nth_held s.now i).link }
 {
-    let n = get_be(s, i * HELD_WIDTH + LINK, U64);
-    LinkNo(n)
+    LinkNo(get_be(s, i * HELD_WIDTH + LINK, U64))
 }
 
 pub fn epoch_at(s: &[u8], i: usize) -> u64
@@ -56,47 +52,28 @@ pub fn heard_at(s: &[u8], i: usize) -> bool
     get_flag(s, i * HELD_WIDTH + HEARD)
 }
 
-// Whether a frame of its session has been heard.
-pub fn has_last_at(s: &[u8], i: usize) -> bool
+// When the last frame of its session was heard.
+pub fn last_at(s: &[u8], i: usize) -> Option<u64>
     requires fit_held { FitHeld s.now }
     requires i_bound { i < held_count s.now }
-    ensures { result ≡ is (nth_held s.now i).last }
+    ensures { result ≡ (nth_held s.now i).last }
 {
-    get_flag(s, i * HELD_WIDTH + HAS_LAST)
+    get_option(s, i * HELD_WIDTH + HAS_LAST)
 }
 
-// When the last frame was heard; 0 if none was.
-pub fn last_at(s: &[u8], i: usize) -> u64
+// The digest of the msg1 that was answered, where an answer of this node installed it.
+pub fn setup_at(s: &[u8], i: usize) -> Option<Digest>
     requires fit_held { FitHeld s.now }
     requires i_bound { i < held_count s.now }
-    ensures { result ≡ last_heard (nth_held s.now i) }
+    ensures { option_map (λ d. d.0) result ≡ (nth_held s.now i).setup }
 {
-    get_be(s, i * HELD_WIDTH + LAST, U64)
-}
-
-// Whether an answer of this node installed it.
-pub fn has_setup_at(s: &[u8], i: usize) -> bool
-    requires fit_held { FitHeld s.now }
-    requires i_bound { i < held_count s.now }
-    ensures { result ≡ is (nth_held s.now i).setup }
-{
-    get_flag(s, i * HELD_WIDTH + HAS_SETUP)
-}
-
-// The digest of the msg1 that was answered; zeros if none was.
-pub fn setup_at(s: &[u8], i: usize) -> Digest
-    requires fit_held { FitHeld s.now }
-    requires i_bound { i < held_count s.now }
-    ensures { result.0 ≡ setup_of (nth_held s.now i) }
-{
-    load_digest(s, i * HELD_WIDTH + SETUP)
+    load_optional(s, i * HELD_WIDTH + HAS_SETUP)
 }
 
 // Whether the current pair is p.
 pub fn current_is(s: &[u8], i: usize, p: Pair) -> bool
     requires fit_held { FitHeld s.now }
     requires i_bound { i < held_count s.now }
-    requires fit_pair { FitPair p }
     ensures { result ≡ same_pair (view_pair p) (nth_held s.now i).current }
 {
     eq_pair_at(s, i * HELD_WIDTH + CURRENT, p)

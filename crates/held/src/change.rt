@@ -1,14 +1,14 @@
 // Parts of the i-th held peer, written in place.
 ghost use Rattle.std.specs.Prelude.{◌<◌};
-ghost use Rattle.node_addr.specs.View.{view_pair, FitPair};
+ghost use Rattle.node_addr.specs.View.{view_pair};
 ghost use Rattle.held.specs.View.{FitHeld, held_count};
 ghost use Rattle.held.specs.Change.{Changed, with_link, with_heard, last_at, with_current};
 
 use crate::at::current_is;
 use crate::layout::{CURRENT, HAS_LAST, HEARD, HELD_WIDTH, LINK};
-use lib_bytes::flag::put_flag;
+use lib_bytes::flag::{put_flag, put_option};
 use lib_bytes::layout::U64;
-use lib_bytes::write::{put_be, put_byte};
+use lib_bytes::write::put_be;
 use node_addr::place::put_pair;
 use node_addr::{LinkNo, Pair};
 
@@ -33,15 +33,13 @@ pub fn set_last(s: &mut [u8], i: usize, clock: u64)
     requires i_bound { i < held_count s.old }
     ensures { Changed (last_at clock) i s.old s.new }
 {
-    let a = put_byte(s, i * HELD_WIDTH + HAS_LAST, 1);
-    put_be(s, a, clock, U64);
+    put_option(s, i * HELD_WIDTH + HAS_LAST, Some(clock));
 }
 
 // The pair is written only if it differs.
 pub fn set_current(s: &mut [u8], i: usize, p: Pair)
     requires fit_held { FitHeld s.old }
     requires i_bound { i < held_count s.old }
-    requires fit_pair { FitPair p }
     ensures { Changed (with_current (view_pair p)) i s.old s.new }
 {
     if current_is(s, i, p) {

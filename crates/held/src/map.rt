@@ -5,16 +5,15 @@ ghost use Rattle.rules.specs.Std.{insert};
 ghost use Rattle.rules.specs.Settle.{named, earlier_held};
 ghost use Rattle.lib_laws.specs.Shift.{erase};
 ghost use Rattle.lib_laws.specs.Scan.{scan};
-ghost use Rattle.node_addr.specs.View.{Finds};
-ghost use Rattle.held.specs.View.{FitRec, FitHeld, view_rec, view_held, held_count};
+ghost use Rattle.held.specs.View.{FitHeld, view_rec, view_held, held_count};
 ghost use Rattle.held.specs.Walk.{Slot};
 
 use crate::entry::put_held;
 use crate::layout::{HELD_CAP, HELD_COUNT, HELD_WIDTH};
 use crate::record::Held;
 use lib_region::{count, open_chunk, remove_chunk};
-use node_addr::place::{eq_node_at, lt_node_at};
-use node_addr::{Found, NodeAddr};
+use node_addr::NodeAddr;
+use node_addr::place::{eq_fixed_at, lt_node_at};
 
 pub fn held_count(s: &[u8]) -> usize
     requires { FitHeld s.now }
@@ -24,20 +23,18 @@ pub fn held_count(s: &[u8]) -> usize
     count(s, HELD_COUNT)
 }
 
-// The place of a peer.
-pub fn find_held(s: &[u8], peer: NodeAddr) -> Found
+// The place of a peer. Entries are bytes of a lent region, not elements of a slice to search; and a closure that reads one would need the bound of its place once more.
+pub fn find_held(s: &[u8], peer: NodeAddr) -> Option<usize>
     requires { FitHeld s.now }
-    ensures { Finds result (scan (named peer.0) 0 (view_held s.now)) }
+    ensures { result ≡ scan (named peer.0) 0 (view_held s.now) }
 {
     let n = held_count(s);
-    let mut i = 0;
-    while i < n {
-        if eq_node_at(s, i * HELD_WIDTH, peer) {
-            return Found::At(i);
+    for i in 0..n {
+        if eq_fixed_at(s, i * HELD_WIDTH, peer) {
+            return Some(i);
         }
-        i += 1;
     }
-    Found::Nothing
+    None
 }
 
 // Where a peer belongs: before the first whose address is greater, else at the end.
@@ -46,12 +43,10 @@ fn place_for(s: &[u8], peer: NodeAddr) -> usize
     ensures { Slot peer.0 result s.now }
 {
     let n = held_count(s);
-    let mut i = 0;
-    while i < n {
+    for i in 0..n {
         if lt_node_at(s, i * HELD_WIDTH, peer) {
             return i;
         }
-        i += 1;
     }
     n
 }
@@ -59,13 +54,11 @@ fn place_for(s: &[u8], peer: NodeAddr) -> usize
 // A peer that is not held yet.
 pub fn insert_held(s: &mut [u8], h: Held)
     requires fit_held { FitHeld s.old }
-    requires fit_rec { FitRec h }
     requires s_bound { held_count s.old < 32 }
     ensures fit_held_2 { FitHeld s.new }
     ensures s_after { view_held s.new ≡ insert earlier_held (view_rec h) (view_held s.old) }
 {
-    let peer = h.peer;
-    let i = place_for(s, peer);
+    let i = place_for(s, h.peer);
     open_chunk(s, HELD_WIDTH, HELD_CAP, i);
     put_held(s, i * HELD_WIDTH, h);
 }
@@ -85,10 +78,7 @@ pub fn drop_held(s: &mut [u8], peer: NodeAddr)
     ensures fit_held { FitHeld s.new }
     ensures s_after { view_held s.new ≡ without (named peer.0) (view_held s.old) }
 {
-    match find_held(s, peer) {
-        Found::At(i) => {
-            remove_held(s, i);
-        }
-        Found::Nothing => {}
+    if let Some(i) = find_held(s, peer) {
+        remove_held(s, i);
     }
 }

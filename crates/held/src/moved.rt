@@ -2,17 +2,16 @@
 ghost use Rattle.std.specs.Prelude.{◌≡◌, ◌<◌, set};
 ghost use Rattle.rules.specs.Base.{alter};
 ghost use Rattle.rules.specs.Settle.{named, moved_to};
-ghost use Rattle.node_addr.specs.View.{view_pair, FitPair};
+ghost use Rattle.node_addr.specs.View.{view_pair};
 ghost use Rattle.held.specs.View.{FitHeld, view_held, held_count, nth_held};
 
 use crate::change::{set_current, set_heard, set_link};
 use crate::map::find_held;
-use node_addr::{Found, LinkNo, NodeAddr, Pair};
+use node_addr::{LinkNo, NodeAddr, Pair};
 
 pub fn moved_to(s: &mut [u8], i: usize, link: LinkNo, from: Pair)
     requires fit_held { FitHeld s.old }
     requires i_bound { i < held_count s.old }
-    requires fit_pair { FitPair from }
     ensures fit_held_2 { FitHeld s.new }
     ensures s_after { view_held s.new ≡ set (view_held s.old) i (moved_to link.0 (view_pair from) (nth_held s.old i)) }
 {
@@ -22,15 +21,11 @@ pub fn moved_to(s: &mut [u8], i: usize, link: LinkNo, from: Pair)
 }
 
 pub fn move_peer(s: &mut [u8], peer: NodeAddr, link: LinkNo, from: Pair)
-    requires fit_held { FitHeld s.old }
-    requires fit_pair { FitPair from }
+    requires { FitHeld s.old }
     ensures fit_held_2 { FitHeld s.new }
     ensures s_after { view_held s.new ≡ alter (named peer.0) (moved_to link.0 (view_pair from)) (view_held s.old) }
 {
-    match find_held(s, peer) {
-        Found::At(i) => {
-            moved_to(s, i, link, from);
-        }
-        Found::Nothing => {}
+    if let Some(i) = find_held(s, peer) {
+        moved_to(s, i, link, from);
     }
 }

@@ -1,7 +1,7 @@
 // A held peer by value.
 use node_addr::{Digest, LinkNo, NodeAddr, Pair};
 
-// `last` is 0 unless `has_last`, `setup` zeros unless `has_setup`.
+// `last`: when the last frame of its session was heard; `setup`: the digest of the msg1 that was answered.
 #[derive(Clone, Copy)]
 pub struct Held {
     pub peer: NodeAddr,
@@ -9,9 +9,7 @@ pub struct Held {
     pub epoch: u64,
     pub installed: u64,
     pub heard: bool,
-    pub has_last: bool,
-    pub last: u64,
-    pub has_setup: bool,
-    pub setup: Digest,
+    pub last: Option<u64>,
+    pub setup: Option<Digest>,
     pub current: Pair,
 }

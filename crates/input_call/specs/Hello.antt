@@ -3,7 +3,7 @@ use Rattle.std.specs.Prelude.{drop}
 use Rattle.rules.specs.Base.{Bytes}
 use Rattle.rules.specs.Data.{Hello}
 use Rattle.node_addr.specs.Place.{pair_here, PairIn}
-use Rattle.input_field.specs.Field.{span_of, FitSpan}
+use Rattle.input_cursor.specs.Span.{span_of, FitSpan}
 use Rattle.input_call.specs.declared.hello.Hello as hello
 
 abbrev pub hello_of : Bytes → hello.Hello → Hello

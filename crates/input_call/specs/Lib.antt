@@ -1,4 +1,2 @@
 pub mod Read
-pub mod Blank
 pub mod Hello
-pub mod Event

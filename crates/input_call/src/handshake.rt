@@ -1,27 +1,21 @@
-// The fields of the calls that carry a message, after their clock: readers in a row, up to the record's end.
-ghost use Rattle.std.specs.Prelude.{◌≡◌, true, ◌≤◌, length, drop};
+// The fields of the calls that carry a message, after their clock, up to the record's end.
+ghost use Rattle.std.specs.Prelude.{◌≤◌, length, drop, IfSome, option_map};
 ghost use Rattle.rules.specs.Data.{Call};
 ghost use Rattle.rules.specs.Record.{hello, dial_fields, arrived_fields, msg1_fields, replacement_fields};
-ghost use Rattle.input_cursor.specs.Follow.{Stepped};
-ghost use Rattle.node_addr.specs.View.{view_pair, view_message, FitPair, FitMessage};
+ghost use Rattle.node_addr.specs.View.{view_pair};
+ghost use Rattle.node_addr.specs.Padded.{view};
 ghost use Rattle.node_addr.specs.Place.{pair_here, PairIn};
-ghost use Rattle.input_field.specs.Field.{span_of, FitSpan};
+ghost use Rattle.input_cursor.specs.Took.{Took};
+ghost use Rattle.input_cursor.specs.Span.{span_of, FitSpan};
 ghost use Rattle.input_call.specs.Read.{Reads};
-ghost use Rattle.input_call.specs.Blank.{no_dial, no_arrived, no_hello, no_msg1, no_replacement};
 ghost use Rattle.input_call.specs.Hello.{hello_of, FitHello};
 
-use crate::hello::{Hello, blank_hello};
-use input_cursor::{
-    at_end, next_digest, next_flag, next_message, next_pair, next_peer, next_span, next_u32,
-    next_u64, skip_pair,
-};
-use input_field::Span;
-use node_addr::layout::NODE_LEN;
-use node_addr::{Message, NodeAddr, Pair, blank_message, blank_pair};
+use crate::hello::Hello;
+use input_cursor::{Cursor, Span};
+use node_addr::{Message, NodeAddr, Pair};
 
 #[derive(Clone, Copy)]
 pub struct DialFields {
-    pub ok: bool,
     pub peer: NodeAddr,
     pub pair: Pair,
     pub message: Message,
@@ -30,171 +24,94 @@ pub struct DialFields {
 
 #[derive(Clone, Copy)]
 pub struct ArrivedFields {
-    pub ok: bool,
     pub from: usize,
     pub message: Span,
-}
-
-// In these the flags stand behind the hello: in front of it the compiler copies the unused bytes between them too.
-#[derive(Clone, Copy)]
-pub struct HelloAt {
-    pub hello: Hello,
-    pub at: usize,
-    pub ok: bool,
 }
 
 #[derive(Clone, Copy)]
 pub struct Msg1Fields {
     pub hello: Hello,
     pub reachable: bool,
-    pub ok: bool,
 }
 
 #[derive(Clone, Copy)]
 pub struct ReplacementFields {
     pub hello: Hello,
-    pub ok: bool,
 }
 
 // 1 dial: peer, pair, msg1, lease.
-pub fn dial_fields(s: &[u8], at: usize) -> DialFields
+pub fn dial_fields(s: &[u8], at: usize) -> Option<DialFields>
     requires { at ≤ length s.now }
-    ensures reads { Reads dial_fields at s.now result.ok (Call.Dial result.peer.0 (view_pair result.pair) (view_message result.message) result.lease) result no_dial }
-    ensures fit_pair { FitPair result.pair }
-    ensures fit_message { FitMessage result.message }
+    ensures { Reads dial_fields at s.now (option_map (λ r. Call.Dial r.peer.0 (view_pair r.pair) (view r.message) r.lease) result) }
 {
-    let p = next_peer(s, true, at);
-    let t = next_pair(s, p.ok, p.at);
-    let m = next_message(s, t.ok, t.at);
-    let l = next_u32(s, m.ok, m.at);
-    if !at_end(s, l.ok, l.at) {
-        let pair = blank_pair();
-        let message = blank_message();
-        return DialFields {
-            ok: false,
-            peer: NodeAddr([0u8; NODE_LEN]),
-            pair: pair,
-            message: message,
-            lease: 0,
-        };
-    }
-    let peer = p.value;
-    let pair = t.value;
-    let message = m.value;
-    DialFields {
-        ok: true,
-        peer: peer,
-        pair: pair,
-        message: message,
-        lease: l.value,
-    }
+    let mut cursor = Cursor::new(s, at);
+    let fields = DialFields {
+        peer: cursor.fixed()?,
+        pair: cursor.pair()?,
+        message: cursor.message()?,
+        lease: cursor.u32()?,
+    };
+    cursor.end()?;
+    Some(fields)
 }
 
 // 3 arrived: pair, which stays where it stands, from `from` on, message.
-pub fn arrived_fields(s: &[u8], at: usize) -> ArrivedFields
+pub fn arrived_fields(s: &[u8], at: usize) -> Option<ArrivedFields>
     requires { at ≤ length s.now }
-    ensures reads { Reads arrived_fields at s.now result.ok (Call.Arrived (pair_here (drop result.from s.now)) (span_of s.now result.message)) result no_arrived }
-    ensures pair_in { result.ok ≡ true → PairIn s.now result.from }
-    ensures fit_span { FitSpan s.now result.message }
+    ensures reads { Reads arrived_fields at s.now (option_map (λ r. Call.Arrived (pair_here (drop r.from s.now)) (span_of s.now r.message)) result) }
+    ensures pair_in { IfSome result (λ r. PairIn s.now r.from) }
+    ensures fit_span { IfSome result (λ r. FitSpan s.now r.message) }
 {
-    let f = skip_pair(s, true, at);
-    let m = next_span(s, f.ok, f.at);
-    if !at_end(s, m.ok, m.at) {
-        return ArrivedFields {
-            ok: false,
-            from: 0,
-            message: Span { at: 0, len: 0 },
-        };
-    }
-    let message = m.value;
-    ArrivedFields {
-        ok: true,
-        from: at,
-        message: message,
-    }
+    let mut cursor = Cursor::new(s, at);
+    let fields = ArrivedFields {
+        from: cursor.skip_pair()?,
+        message: cursor.span()?,
+    };
+    cursor.end()?;
+    Some(fields)
 }
 
 // What msg1 and replacement share: peer, pair, message, digest, epoch, msg2, lease.
-pub fn next_hello(s: &[u8], at: usize) -> HelloAt
-    requires { at ≤ length s.now }
-    ensures stepped { Stepped hello true at s.now result.ok (hello_of s.now result.hello) result.at result no_hello }
-    ensures fit_hello { result.ok ≡ true → FitHello s.now result.hello }
+pub fn next_hello(cursor: &mut Cursor) -> Option<Hello>
+    ensures took { Took hello cursor.old (option_map (hello_of cursor.old.rec.now) result) cursor.new }
+    ensures fit_hello { IfSome result (λ h. FitHello cursor.old.rec.now h) }
 {
-    let p = next_peer(s, true, at);
-    let f = skip_pair(s, p.ok, p.at);
-    let b = next_span(s, f.ok, f.at);
-    let d = next_digest(s, b.ok, b.at);
-    let e = next_u64(s, d.ok, d.at);
-    let m = next_span(s, e.ok, e.at);
-    let l = next_u32(s, m.ok, m.at);
-    if !l.ok {
-        let hello = blank_hello();
-        return HelloAt {
-            ok: false,
-            hello: hello,
-            at: 0,
-        };
-    }
-    let peer = p.value;
-    let message = b.value;
-    let digest = d.value;
-    let msg2 = m.value;
-    HelloAt {
-        ok: true,
-        hello: Hello {
-            peer: peer,
-            from: p.at,
-            message: message,
-            digest: digest,
-            epoch: e.value,
-            msg2: msg2,
-            lease: l.value,
-        },
-        at: l.at,
-    }
+    Some(Hello {
+        peer: cursor.fixed()?,
+        from: cursor.skip_pair()?,
+        message: cursor.span()?,
+        digest: cursor.fixed()?,
+        epoch: cursor.u64()?,
+        msg2: cursor.span()?,
+        lease: cursor.u32()?,
+    })
 }
 
 // 4 msg1: these, reachable flag.
-pub fn msg1_fields(s: &[u8], at: usize) -> Msg1Fields
+pub fn msg1_fields(s: &[u8], at: usize) -> Option<Msg1Fields>
     requires { at ≤ length s.now }
-    ensures reads { Reads msg1_fields at s.now result.ok (Call.Msg1 (hello_of s.now result.hello) result.reachable) result no_msg1 }
-    ensures fit_hello { result.ok ≡ true → FitHello s.now result.hello }
+    ensures reads { Reads msg1_fields at s.now (option_map (λ r. Call.Msg1 (hello_of s.now r.hello) r.reachable) result) }
+    ensures fit_hello { IfSome result (λ r. FitHello s.now r.hello) }
 {
-    let h = next_hello(s, at);
-    let f = next_flag(s, h.ok, h.at);
-    if !at_end(s, f.ok, f.at) {
-        let hello = blank_hello();
-        return Msg1Fields {
-            ok: false,
-            hello: hello,
-            reachable: false,
-        };
-    }
-    let hello = h.hello;
-    Msg1Fields {
-        ok: true,
-        hello: hello,
-        reachable: f.value,
-    }
+    let mut cursor = Cursor::new(s, at);
+    let fields = Msg1Fields {
+        hello: next_hello(&mut cursor)?,
+        reachable: cursor.flag()?,
+    };
+    cursor.end()?;
+    Some(fields)
 }
 
 // 5 replacement: these.
-pub fn replacement_fields(s: &[u8], at: usize) -> ReplacementFields
+pub fn replacement_fields(s: &[u8], at: usize) -> Option<ReplacementFields>
     requires { at ≤ length s.now }
-    ensures reads { Reads replacement_fields at s.now result.ok (Call.Replacement (hello_of s.now result.hello)) result no_replacement }
-    ensures fit_hello { result.ok ≡ true → FitHello s.now result.hello }
+    ensures reads { Reads replacement_fields at s.now (option_map (λ r. Call.Replacement (hello_of s.now r.hello)) result) }
+    ensures fit_hello { IfSome result (λ r. FitHello s.now r.hello) }
 {
-    let h = next_hello(s, at);
-    if !at_end(s, h.ok, h.at) {
-        let hello = blank_hello();
-        return ReplacementFields {
-            ok: false,
-            hello: hello,
-        };
-    }
-    let hello = h.hello;
-    ReplacementFields {
-        ok: true,
-        hello: hello,
-    }
+    let mut cursor = Cursor::new(s, at);
+    let fields = ReplacementFields {
+        hello: next_hello(&mut cursor)?,
+    };
+    cursor.end()?;
+    Some(fields)
 }

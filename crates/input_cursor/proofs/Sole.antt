@@ -1,32 +1,27 @@
--- The bytes determine what a reader answers: whether it reads, then value and next place, else the blank answer.
-use Rattle.std.specs.Prelude.{if◌then◌else◌}
-use mathlib.Core.Path.{◌≡◌, refl, sym, ap, ◌∙◌}
-use mathlib.Core.Bool.{Bool, true, false, true≢false}
-use mathlib.Core.Option.{Option, none, some}
-use mathlib.Core.List.{List}
-use Prim.Native.Nat.{ℕ, ◌≤◌}
-use native.Mathlib.Omega.{arith}
-use lib.ListN.{length, drop, length-drop}
+-- The bytes determine what a reader answers: whether it reads, the value, and the place that the cursor is left at, where the next field begins.
+use Rattle.std.specs.Prelude.{◌≡◌, refl, ℕ, List, length, drop, None, Option, Some, option_map}
+use Rattle.std.proofs.Common.{sym, ap, ◌∙◌, arith, length-drop}
 use Rattle.rules.specs.Field.{Reader}
-use Rattle.input_cursor.specs.Follow.{Stepped}
+use Rattle.input_cursor.specs.declared.Cursor.{Cursor}
+use Rattle.input_cursor.specs.Took.{Took, left_at}
 
-pub record Same {A R : Type 0} (ok₁ ok₂ : Bool) (v₁ v₂ : A) (at₁ at₂ : ℕ) (r₁ r₂ : R) : Type 0 where
-  pub ok : ok₁ ≡ ok₂
-  pub read : ok₁ ≡ true → (v₁ ≡ v₂) × (at₁ ≡ at₂)
-  pub blank : ok₁ ≡ false → r₁ ≡ r₂
+pub record Same {A : Type 0} (o₁ o₂ : Option A) (c₁ c₂ : Cursor) : Type 0 where
+  pub answer : o₁ ≡ o₂
+  pub next : c₁.at ≡ c₂.at
 
-pub sole : {A R : Type 0} {p : Reader A} {ok : Bool} {at : ℕ} {s : List ℕ} {ok₁ ok₂ : Bool} {v₁ v₂ : A} {at₁ at₂ : ℕ} {r₁ r₂ b : R}
-    → Stepped p ok at s ok₁ v₁ at₁ r₁ b → Stepped p ok at s ok₂ v₂ at₂ r₂ b → Same ok₁ ok₂ v₁ v₂ at₁ at₂ r₁ r₂
-sole {A} {R} {s = s} {ok₁} {ok₂} {v₁} {v₂} {at₁} {at₂} {r₁} {r₂} {b} x y = go ok₁ ok₂ (sym x.is ∙ y.is) x.off y.off
+pub sole : {A : Type 0} {p : Reader A} {c c₁ c₂ : Cursor} {o₁ o₂ : Option A} → Took p c o₁ c₁ → Took p c o₂ c₂ → Same o₁ o₂ c₁ c₂
+sole {A} {c = c} {c₁} {c₂} {o₁} {o₂} x y = go o₁ o₂ x.lost y.lost (sym x.is ∙ y.is)
   where
-    read : A → ℕ → Option (A × List ℕ)
-    read v i = some (v, drop i s)
+    left : Cursor → A → A × List ℕ
+    left d v = (v, drop d.at c.rec.now)
 
-    go : (c d : Bool) → (if c then read v₁ at₁ else none) ≡ (if d then read v₂ at₂ else none) → (c ≡ false → r₁ ≡ b) → (d ≡ false → r₂ ≡ b) → Same c d v₁ v₂ at₁ at₂ r₁ r₂
-    go true true e f g =
-        let w : ◌≡◌ {A = A × List ℕ} (v₁, drop at₁ s) (v₂, drop at₂ s) = cc in
-        let l : length (drop at₁ s) ≡ length (drop at₂ s) = ap (λ (q : A × List ℕ). length q.1) w in
-        record { ok = refl; read = λ z. (ap (λ (q : A × List ℕ). q.0) w, omega (arith, x.room, y.room, l, length-drop at₁ s, length-drop at₂ s)); blank = λ z. absurd (true≢false z) }
-    go true false e f g = absurd (let z : ◌≡◌ {A = ℕ} 0 1 = cc in omega arith)
-    go false true e f g = absurd (let z : ◌≡◌ {A = ℕ} 0 1 = cc in omega arith)
-    go false false e f g = record { ok = refl; read = λ z. absurd (true≢false (sym z)); blank = λ z. f refl ∙ sym (g refl) }
+    place : (v w : A) → left c₁ v ≡ left c₂ w → c₁.at ≡ c₂.at
+    place v w e =
+        let l : length (drop c₁.at c.rec.now) ≡ length (drop c₂.at c.rec.now) = ap (λ (q : A × List ℕ). length q.1) e in
+        omega (arith, rw x.rec at c₁.within, rw y.rec at c₂.within, simp length-drop at l)
+
+    go : (o₁ o₂ : Option A) → left_at o₁ c₁.at → left_at o₂ c₂.at → option_map (left c₁) o₁ ≡ option_map (left c₂) o₂ → Same o₁ o₂ c₁ c₂
+    go (Some v) (Some w) a b e = let q : left c₁ v ≡ left c₂ w = cc in record { answer = ap Some (ap (λ (r : A × List ℕ). r.0) q); next = place v w q }
+    go (Some v) None a b e = cc
+    go None (Some w) a b e = cc
+    go None None a b e = record { answer = refl; next = a ∙ sym b }

@@ -1,3 +1,2 @@
-pub mod Follow
-pub mod Blank
-pub mod Row
+pub mod Span
+pub mod Took

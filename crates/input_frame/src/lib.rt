@@ -3,81 +3,60 @@
 
 pub mod kind;
 
-ghost use Rattle.std.specs.Prelude.{true};
-ghost use Rattle.input_cursor.specs.Follow.{Stepped};
+ghost use Rattle.std.specs.Prelude.{◌≡◌, ◌≤◌, length, drop, option_map, IfSome};
 ghost use Rattle.input_frame.specs.Frame.{heading, header};
-ghost use Rattle.input_frame.specs.Blank.{no_frame, no_header};
 
-use input_cursor::next_u64;
-use input_field::two_bytes;
+use input_cursor::Cursor;
 use lib_bytes::layout::U16;
+use lib_bytes::read::get_be;
 use node_addr::layout::{FRAME_KIND, FRAME_LEN, FRAME_VERSION, VERSION};
 
+// The rest of the record is at `at`. The kind is the record's byte, since the frame is right with any: what follows a byte of no kind is refused later.
 #[derive(Clone, Copy)]
 pub struct Frame {
-    pub ok: bool,
     pub kind: u8,
     pub at: usize,
 }
 
-// Length, version and kind. The rest of the record is at `at`.
-pub fn read_frame(rec: &[u8]) -> Frame
-    ensures { Stepped heading true 0 rec.now result.ok result.kind result.at result no_frame }
+// Length, version and kind.
+pub fn read_frame(rec: &[u8]) -> Option<Frame>
+    ensures is { heading rec.now ≡ option_map (λ f. (f.kind, drop f.at rec.now)) result }
+    ensures room { IfSome result (λ f. f.at ≤ length rec.now) }
 {
     if rec.len() < FRAME_LEN {
-        return Frame {
-            ok: false,
-            kind: 0,
-            at: 0,
-        };
+        return None;
     }
-    if two_bytes(rec) + U16 != rec.len() {
-        return Frame {
-            ok: false,
-            kind: 0,
-            at: 0,
-        };
+    if get_be(rec, 0, U16) as usize + U16 != rec.len() {
+        return None;
     }
     if rec[FRAME_VERSION] != VERSION {
-        return Frame {
-            ok: false,
-            kind: 0,
-            at: 0,
-        };
+        return None;
     }
-    Frame {
-        ok: true,
+    Some(Frame {
         kind: rec[FRAME_KIND],
         at: FRAME_LEN,
-    }
+    })
 }
 
+// The fields of a call are from `at` on. The kind is the record's byte, as in Frame.
 #[derive(Clone, Copy)]
 pub struct Header {
-    pub ok: bool,
     pub kind: u8,
     pub now: u64,
     pub at: usize,
 }
 
-// Frame and clock of a call. Its fields are from `at` on.
-pub fn read_header(rec: &[u8]) -> Header
-    ensures { Stepped header true 0 rec.now result.ok (result.kind, result.now) result.at result no_header }
+// Frame and clock of a call.
+pub fn read_header(rec: &[u8]) -> Option<Header>
+    ensures is { header rec.now ≡ option_map (λ h. ((h.kind, h.now), drop h.at rec.now)) result }
+    ensures room { IfSome result (λ h. h.at ≤ length rec.now) }
 {
-    let f = read_frame(rec);
-    let t = next_u64(rec, f.ok, f.at);
-    if !t.ok {
-        return Header {
-            ok: false,
-            kind: 0,
-            now: 0,
-            at: 0,
-        };
-    }
-    Header {
-        ok: true,
+    let f = read_frame(rec)?;
+    let mut cursor = Cursor::new(rec, f.at);
+    let now = cursor.u64()?;
+    Some(Header {
         kind: f.kind,
-        now: t.value,
-        at: t.at,
-    }
+        now,
+        at: cursor.at,
+    })
 }

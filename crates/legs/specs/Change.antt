@@ -1,14 +1,13 @@
 -- What a change of some cells of one entry makes of the region: a resend that is counted, an answer marked sent, or unsent.
-use Rattle.std.specs.Prelude.{◌≡◌, Bool, true, false, ℕ, ◌+◌, ◌*◌, ◌≤◌, ◌<◌, get_or, if◌then◌else◌}
+use Rattle.std.specs.Prelude.{◌≡◌, Bool, true, false, ℕ, ◌+◌, ◌*◌, ◌≤◌, ◌<◌, get_or, if◌then◌else◌, Option}
 use Rattle.std.proofs.Math.Path.{refl, sym, ap}
 use Rattle.std.proofs.Common.{◌∙◌, subst, lit≤, lit<, Fits}
-use Rattle.std.proofs.Math.Option.{none, some}
 use mathlib.Core.List.{List, [], ◌∷◌, ◌++◌}
 use native.Mathlib.Omega.{arith}
 use Rattle.std.proofs.lemmas.Bool.{eqb-false}
 use Rattle.std.proofs.Math.ListN.{length, set}
 use Rattle.std.specs.Int.{w32, w64}
-use Rattle.rules.specs.Base.{one, Bytes}
+use Rattle.rules.specs.Base.{Bytes}
 use Rattle.rules.specs.Field.{digits}
 use Rattle.rules.specs.Data.{Kind, Leg}
 use Rattle.rules.specs.Legs.{sent_kind, unsent_kind, mark_sent, mark_unsent, with_kind}
@@ -16,12 +15,12 @@ use Rattle.lib_laws.specs.Shift.{fit_at, shown, replaced}
 use Rattle.lib_laws.specs.Splice.{splice, splice_splice, length_splice, length_digits, Wrote}
 use Rattle.lib_laws.specs.Round.{more_digits}
 use Rattle.lib_laws.specs.Part.{get_d_past}
-use Rattle.lib_laws.specs.Cell.{byte_of, flag_of, Code, flag_shows}
+use Rattle.lib_laws.specs.Cell.{byte_of, flag_of, or_blank, Code, flag_cell, number_cells, optional_number, number_shows}
 use Rattle.lib_laws.specs.Chunk.{chunks, chunk_size, chunks_splice}
 use Rattle.lib_laws.specs.Fields.{cuts, cuts_set, sum}
 use Rattle.node_addr.specs.Alike.{byte_here}
 use Rattle.legs_entry.specs.View.{cell, leg_from, leg_of, FitCells, FitLegCell, view_legs, FitLegs, leg_count, no_leg, leg_at}
-use Rattle.legs_entry.specs.Entry.{optional_number, cells_here}
+use Rattle.legs_entry.specs.Entry.{cells_here}
 use Rattle.legs_entry.specs.Start.{again}
 use Rattle.legs_entry.specs.Layout.{at_answer, at_answer_sent, at_has_next, at_leg_count, at_replaces, leg_cap, leg_width, leg_ws, at_next_resend, at_sent}
 
@@ -115,26 +114,27 @@ module _ (c : Bytes) (z : length c ≡ leg_width) (f : FitLegCell c) where
   unsent_shows = ap leg_from unsent_cuts ∙ ap (λ (k : Kind). with_kind k (leg_of c)) (unsent_kind_lem (flag_of (cell (cuts 0 0 leg_ws c) 6)) _ _ _ _ _)
 
   -- ---- the next resend, and how many were sent
-  module _ (t : Bool) (v n : ℕ) where
-    again_cuts : cuts 0 0 leg_ws (splice c at_has_next ((one t ∷ []) ++ digits 8 v ++ digits 4 n)) ≡ set (set (set (cuts 0 0 leg_ws c) 2 (one t ∷ [])) 3 (digits 8 v)) 4 (digits 4 n)
+  module _ (o : Option ℕ) (n : ℕ) where
+    again_cuts : cuts 0 0 leg_ws (splice c at_has_next (number_cells o ++ digits 4 n)) ≡ set (set (set (cuts 0 0 leg_ws c) 2 (flag_cell o)) 3 (digits 8 (or_blank 0 o))) 4 (digits 4 n)
     unfolding sum
     again_cuts =
+        let v : ℕ = or_blank 0 o in
         let l8 : length (digits 8 v) ≡ 8 = length_digits 8 v in
         let l4 : length (digits 4 n) ≡ 4 = length_digits 4 n in
-        let z1 : length (splice c at_has_next (one t ∷ [])) ≡ leg_width = length_splice c at_has_next (one t ∷ []) (omega arith) ∙ z in
-        let z2 : length (splice (splice c at_has_next (one t ∷ [])) at_next_resend (digits 8 v)) ≡ leg_width = length_splice (splice c at_has_next (one t ∷ [])) at_next_resend (digits 8 v) (omega arith) ∙ z1 in
-        let e1 : splice c at_has_next ((one t ∷ []) ++ digits 8 v) ≡ splice (splice c at_has_next (one t ∷ [])) at_next_resend (digits 8 v) = sym (splice_splice c at_has_next (one t ∷ []) (digits 8 v) (omega arith)) in
-        let l9 : length ((one t ∷ []) ++ digits 8 v) ≡ 9 = omega arith in
-        let e2 : splice c at_has_next ((one t ∷ []) ++ digits 8 v ++ digits 4 n) ≡ splice (splice (splice c at_has_next (one t ∷ [])) at_next_resend (digits 8 v)) at_sent (digits 4 n) =
-        sym (splice_splice c at_has_next ((one t ∷ []) ++ digits 8 v) (digits 4 n) (omega arith)) ∙ rw (l9, e1) in
+        let z1 : length (splice c at_has_next (flag_cell o)) ≡ leg_width = length_splice c at_has_next (flag_cell o) (omega arith) ∙ z in
+        let z2 : length (splice (splice c at_has_next (flag_cell o)) at_next_resend (digits 8 v)) ≡ leg_width = length_splice (splice c at_has_next (flag_cell o)) at_next_resend (digits 8 v) (omega arith) ∙ z1 in
+        let e1 : splice c at_has_next (number_cells o) ≡ splice (splice c at_has_next (flag_cell o)) at_next_resend (digits 8 v) = sym (splice_splice c at_has_next (flag_cell o) (digits 8 v) (omega arith)) in
+        let l9 : length (number_cells o) ≡ 9 = omega arith in
+        let e2 : splice c at_has_next (number_cells o ++ digits 4 n) ≡ splice (splice (splice c at_has_next (flag_cell o)) at_next_resend (digits 8 v)) at_sent (digits 4 n) =
+        sym (splice_splice c at_has_next (number_cells o) (digits 4 n) (omega arith)) ∙ rw (l9, e1) in
         ap (cuts 0 0 leg_ws) e2
-        ∙ cuts_set 0 0 leg_ws (splice (splice c at_has_next (one t ∷ [])) at_next_resend (digits 8 v)) 4 at_sent (digits 4 n) (lit< tt) (omega arith) l4 refl
-        ∙ ap (λ (x : List Bytes). set x 4 (digits 4 n)) (cuts_set 0 0 leg_ws (splice c at_has_next (one t ∷ [])) 3 at_next_resend (digits 8 v) (lit< tt) (omega arith) l8 refl)
-        ∙ ap (λ (x : List Bytes). set (set x 3 (digits 8 v)) 4 (digits 4 n)) (cuts_set 0 0 leg_ws c 2 at_has_next (one t ∷ []) (lit< tt) (omega arith) refl refl)
+        ∙ cuts_set 0 0 leg_ws (splice (splice c at_has_next (flag_cell o)) at_next_resend (digits 8 v)) 4 at_sent (digits 4 n) (lit< tt) (omega arith) l4 refl
+        ∙ ap (λ (x : List Bytes). set x 4 (digits 4 n)) (cuts_set 0 0 leg_ws (splice c at_has_next (flag_cell o)) 3 at_next_resend (digits 8 v) (lit< tt) (omega arith) l8 refl)
+        ∙ ap (λ (x : List Bytes). set (set x 3 (digits 8 v)) 4 (digits 4 n)) (cuts_set 0 0 leg_ws c 2 at_has_next (flag_cell o) (lit< tt) (omega arith) refl refl)
 
-    again_fits : (t ≡ false → v ≡ 0) → FitLegCell (splice c at_has_next ((one t ∷ []) ++ digits 8 v ++ digits 4 n))
-    again_fits q = subst FitCells (sym again_cuts) (record {
-      next = optional_number t v q;
+    again_fits : FitLegCell (splice c at_has_next (number_cells o ++ digits 4 n))
+    again_fits = subst FitCells (sym again_cuts) (record {
+      next = optional_number o;
       answer = f.answer;
       peer = f.peer;
       answer_sent = f.answer_sent;
@@ -146,8 +146,8 @@ module _ (c : Bytes) (z : length c ≡ leg_width) (f : FitLegCell c) where
           record { answer_sent = k.answer_sent; replaces = k.replaces; epoch = k.epoch; digest = k.digest; len2 = k.len2; msg2 = k.msg2 };
     })
 
-    again_shows : Fits w64 v → Fits w32 n → leg_of (splice c at_has_next ((one t ∷ []) ++ digits 8 v ++ digits 4 n)) ≡ again (if t then some v else none) n (leg_of c)
-    again_shows p q = ap leg_from again_cuts ∙ rw (flag_shows t, more_digits 8 v p.fits, more_digits 4 n q.fits)
+    again_shows : Fits w64 (or_blank 0 o) → Fits w32 n → leg_of (splice c at_has_next (number_cells o ++ digits 4 n)) ≡ again o n (leg_of c)
+    again_shows p q = ap leg_from again_cuts ∙ rw (number_shows o p.fits, more_digits 4 n q.fits)
 
 -- ---- the same of the region
 module _ {s l : Bytes} {q : ℕ} (i : ℕ) where
@@ -165,10 +165,10 @@ module _ {s l : Bytes} {q : ℕ} (i : ℕ) where
       let k = entry_fit s i f h in
       changed_here i at_replaces (mark_unsent (leg_at s i)) a f h (lit≤ tt) (unsent_fits (entry_at s i) z k) (unsent_shows (entry_at s i) z k ∙ ap mark_unsent (entry_shows s i f h))
 
-  pub set_again : (t : Bool) (v n : ℕ) → Wrote s (i * leg_width + at_has_next) 13 ((one t ∷ []) ++ digits 8 v ++ digits 4 n) l q → FitLegs s → i < leg_count s
-      → (t ≡ false → v ≡ 0) → Fits w64 v → Fits w32 n → FitLegs l × (view_legs l ≡ set (view_legs s) i (again (if t then some v else none) n (leg_at s i)))
-  set_again t v n a f h b x y =
+  pub set_again : (o : Option ℕ) (n : ℕ) → Wrote s (i * leg_width + at_has_next) 13 (number_cells o ++ digits 4 n) l q → FitLegs s → i < leg_count s
+      → Fits w64 (or_blank 0 o) → Fits w32 n → FitLegs l × (view_legs l ≡ set (view_legs s) i (again o n (leg_at s i)))
+  set_again o n a f h x y =
       let z = entry_size s i f h in
       let k = entry_fit s i f h in
-      changed_here i at_has_next (again (if t then some v else none) n (leg_at s i)) a f h (lit≤ tt) (again_fits (entry_at s i) z k t v n b)
-      (again_shows (entry_at s i) z k t v n x y ∙ ap (again (if t then some v else none) n) (entry_shows s i f h))
+      changed_here i at_has_next (again o n (leg_at s i)) a f h (lit≤ tt) (again_fits (entry_at s i) z k o n)
+      (again_shows (entry_at s i) z k o n x y ∙ ap (again o n) (entry_shows s i f h))

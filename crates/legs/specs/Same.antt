@@ -11,7 +11,6 @@ use Rattle.lib_laws.specs.Fields.{cuts, sum}
 use Rattle.lib_laws.specs.Store.{store_zeros, same_view}
 use Rattle.lib_laws.specs.Same.{cell_bytes, num_cells, cells_same, with_bytes}
 use Rattle.legs_entry.specs.View.{answer_from, kind_from, leg_of, FitLegCell, view_legs, FitLegs, fit_zeros}
-use Rattle.links_entry.specs.Layout.{at_path_state}
 use Rattle.legs_entry.specs.Layout.{at_leg_count, leg_cap, leg_width, legs_len, at_epoch, leg_ws, at_next_resend, at_answer, at_sent, at_answer_sent, at_msg2, at_replaces, at_msg2_bytes, at_digest, at_lease}
 
 -- ---- new memory
@@ -28,7 +27,7 @@ module _ (c d : Bytes) where
     pub answer : take 1 (drop at_answer c) ≡ take 1 (drop at_answer d)
     pub answer_sent : take 1 (drop at_answer_sent c) ≡ take 1 (drop at_answer_sent d)
     pub replaces : take 1 (drop at_replaces c) ≡ take 1 (drop at_replaces d)
-    pub epoch : take 8 (drop at_path_state c) ≡ take 8 (drop at_path_state d)
+    pub epoch : take 8 (drop at_epoch c) ≡ take 8 (drop at_epoch d)
     pub digest : take 32 (drop at_digest c) ≡ take 32 (drop at_digest d)
     pub len2 : take 1 (drop at_msg2 c) ≡ take 1 (drop at_msg2 d)
     pub msg2 : take 128 (drop at_msg2_bytes c) ≡ take 128 (drop at_msg2_bytes d)

@@ -1,43 +1,27 @@
 // Changes of the i-th leg, in place.
-ghost use Rattle.std.specs.Prelude.{◌≡◌, [], ◌∷◌, ◌++◌, ◌+◌, ◌≤◌, ◌<◌, length, set};
-ghost use Rattle.rules.specs.Base.{one};
-ghost use Rattle.rules.specs.Field.{digits};
+ghost use Rattle.std.specs.Prelude.{◌≡◌, ◌<◌, set};
 ghost use Rattle.rules.specs.Legs.{resent, mark_sent, mark_unsent};
-ghost use Rattle.lib_laws.specs.Splice.{Wrote};
 ghost use Rattle.params.specs.View.{view_params};
-ghost use Rattle.legs_entry.specs.Start.{Next};
+ghost use Rattle.legs_entry.specs.Start.{resend_after};
 ghost use Rattle.legs_entry.specs.View.{FitLegs, view_legs, leg_count, leg_at};
 
 use legs_entry::layout::{ANSWER, ANSWER_SENT, HAS_NEXT, LEG_WIDTH, REPLACES, SENT};
-use legs_entry::leg::Again;
-use lib_bytes::flag::put_flag;
-use lib_bytes::layout::{U32, U64};
+use lib_bytes::flag::put_option;
+use lib_bytes::layout::U32;
 use lib_bytes::read::{get_be, get_byte};
 use lib_bytes::write::{put_be, put_byte};
 use params::Params;
 use params::time::{one_more, resend_at};
 
 // The resend after n of them, where more are left.
-fn next_resend(c: Params, clock: u64, n: u32) -> Again
-    ensures { Next (view_params c) clock n result.some result.at }
+fn resend_after(c: Params, clock: u64, n: u32) -> Option<u64>
+    ensures { result ≡ resend_after (view_params c) clock n }
 {
     if n < c.resends {
-        return Again {
-            some: true,
-            at: resend_at(clock, n, c.resend),
-        };
+        Some(resend_at(clock, n, c.resend))
+    } else {
+        None
     }
-    Again { some: false, at: 0 }
-}
-
-// `has_next`, `next` and `sent`, which stand in a row.
-fn put_again(s: &mut [u8], at: usize, next: Again, n: u32) -> usize
-    requires { at + 13 ≤ length s.old }
-    ensures { Wrote s.old at 13 ((one next.some ∷ []) ++ digits 8 next.at ++ digits 4 n) s.new result }
-{
-    let a = put_flag(s, at, next.some);
-    let b = put_be(s, a, next.at, U64);
-    put_be(s, b, n as u64, U32)
 }
 
 // A resend went out: it is counted, and the next is due after twice the interval.
@@ -48,8 +32,9 @@ pub fn resent_at(s: &mut [u8], i: usize, clock: u64, c: Params)
     ensures s_after { view_legs s.new ≡ set (view_legs s.old) i (resent (view_params c) clock (leg_at s.old i)) }
 {
     let n = one_more(get_be(s, i * LEG_WIDTH + SENT, U32) as u32);
-    let next = next_resend(c, clock, n);
-    put_again(s, i * LEG_WIDTH + HAS_NEXT, next, n);
+    let next = resend_after(c, clock, n);
+    let a = put_option(s, i * LEG_WIDTH + HAS_NEXT, next);
+    put_be(s, a, n as u64, U32);
 }
 
 // The answer was sent: its mark becomes the answer's flag, so that a dial gets none.

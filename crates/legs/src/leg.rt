@@ -1,2 +1,2 @@
 // Of crate legs_entry, for those above.
-pub use legs_entry::leg::{Again, Leg, answer_leg, dial_leg};
+pub use legs_entry::leg::{Answer, Leg, answer_leg, dial_leg};

@@ -4,15 +4,14 @@ ghost use Rattle.rules.specs.Base.{without};
 ghost use Rattle.rules.specs.Legs.{on_link};
 ghost use Rattle.lib_laws.specs.Shift.{erase};
 ghost use Rattle.lib_laws.specs.Scan.{scan};
-ghost use Rattle.node_addr.specs.View.{Finds};
-ghost use Rattle.legs_entry.specs.View.{FitLeg, FitLegs, view_leg, view_legs, leg_count};
+ghost use Rattle.legs_entry.specs.View.{FitLegs, view_leg, view_legs, leg_count};
 
 use legs_entry::at::link_at;
 use legs_entry::entry::put_leg;
 use legs_entry::layout::{LEG_CAP, LEG_COUNT, LEG_WIDTH};
 use legs_entry::leg::Leg;
 use lib_region::{count, remove_chunk};
-use node_addr::{Found, LinkNo};
+use node_addr::LinkNo;
 
 pub fn leg_count(s: &[u8]) -> usize
     requires { FitLegs s.now }
@@ -23,27 +22,17 @@ pub fn leg_count(s: &[u8]) -> usize
 }
 
 // The place of the leg on a link.
-pub fn find_leg(s: &[u8], n: LinkNo) -> Found
+pub fn find_leg(s: &[u8], n: LinkNo) -> Option<usize>
     requires { FitLegs s.now }
-    ensures { Finds result (scan (on_link n.0) 0 (view_legs s.now)) }
+    ensures { result ≡ scan (on_link n.0) 0 (view_legs s.now) }
 {
-    let k = n.0;
     let end = leg_count(s);
-    let mut i = 0;
-    while i < end {
-        let l = link_at(s, i);
-        if k == l.0 {
-            return Found::At(i);
-        }
-        i += 1;
-    }
-    Found::Nothing
+    (0..end).find(|i| n == link_at(s, *i))
 }
 
 // A leg on a new link, whose number is above all others.
 pub fn push_leg(s: &mut [u8], l: Leg)
     requires fit_legs { FitLegs s.old }
-    requires fit_leg { FitLeg l }
     requires s_bound { leg_count s.old < 32 }
     ensures fit_legs_2 { FitLegs s.new }
     ensures s_after { view_legs s.new ≡ view_legs s.old ++ (view_leg l ∷ []) }
@@ -68,10 +57,7 @@ pub fn drop_leg(s: &mut [u8], n: LinkNo)
     ensures fit_legs { FitLegs s.new }
     ensures s_after { view_legs s.new ≡ without (on_link n.0) (view_legs s.old) }
 {
-    match find_leg(s, n) {
-        Found::At(i) => {
-            remove_leg(s, i);
-        }
-        Found::Nothing => {}
+    if let Some(i) = find_leg(s, n) {
+        remove_leg(s, i);
     }
 }

@@ -1,29 +1,12 @@
 // What poll and wake look for: answers in flight, legs past their deadline, resends that are due, the earliest of them.
-ghost use Rattle.std.specs.Prelude.{◌≡◌, true, false, ◌≤◌, ◌<◌, min, drop, if◌then◌else◌};
-ghost use Rattle.rules.specs.Base.{one};
+ghost use Rattle.std.specs.Prelude.{◌≡◌, ◌≤◌, ◌<◌, drop};
 ghost use Rattle.rules.specs.Legs.{answering, wake, next_wake};
 ghost use Rattle.lib_laws.specs.Scan.{scan};
-ghost use Rattle.node_addr.specs.View.{Finds};
 ghost use Rattle.legs_entry.specs.View.{FitLegs, view_legs, leg_count, leg_at};
-ghost use Rattle.legs.specs.Walk.{perhaps};
 ghost use Rattle.legs_entry.specs.At.{resend_due, past_deadline};
 
 use crate::map::leg_count;
-use legs_entry::at::{answers_at, deadline_at, has_next_at, next_at};
-use node_addr::Found;
-
-// `at` counts only if `some`.
-#[derive(Clone, Copy)]
-pub struct Wake {
-    pub some: bool,
-    pub at: u64,
-}
-
-fn bit(b: bool) -> usize
-    ensures { result ≡ one b }
-{
-    if b { 1 } else { 0 }
-}
+use legs_entry::at::{answers_at, deadline_at, next_at};
 
 // How many answers there are.
 pub fn answering(s: &[u8]) -> usize
@@ -31,14 +14,7 @@ pub fn answering(s: &[u8]) -> usize
     ensures { result ≡ answering (view_legs s.now) }
 {
     let n = leg_count(s);
-    let mut k = 0;
-    let mut i = 0;
-    while i < n {
-        let b = answers_at(s, i);
-        k += bit(b);
-        i += 1;
-    }
-    k
+    (0..n).filter(|i| answers_at(s, *i)).count()
 }
 
 // Whether the next resend is due.
@@ -47,43 +23,26 @@ pub fn resend_due(s: &[u8], i: usize, clock: u64) -> bool
     requires i_bound { i < leg_count s.now }
     ensures { result ≡ resend_due clock (leg_at s.now i) }
 {
-    if !has_next_at(s, i) {
-        return false;
-    }
-    next_at(s, i) <= clock
+    next_at(s, i).is_some_and(|n| n <= clock)
 }
 
 // The first leg past its deadline, which poll reaps.
-pub fn find_overdue(s: &[u8], clock: u64) -> Found
+pub fn find_overdue(s: &[u8], clock: u64) -> Option<usize>
     requires { FitLegs s.now }
-    ensures { Finds result (scan (past_deadline clock) 0 (view_legs s.now)) }
+    ensures { result ≡ scan (past_deadline clock) 0 (view_legs s.now) }
 {
     let n = leg_count(s);
-    let mut i = 0;
-    while i < n {
-        if deadline_at(s, i) <= clock {
-            return Found::At(i);
-        }
-        i += 1;
-    }
-    Found::Nothing
+    (0..n).find(|i| deadline_at(s, *i) <= clock)
 }
 
 // The first leg from a place on whose resend is due.
-pub fn find_resend(s: &[u8], from: usize, clock: u64) -> Found
+pub fn find_resend(s: &[u8], from: usize, clock: u64) -> Option<usize>
     requires fit_legs { FitLegs s.now }
     requires from_bound { from ≤ leg_count s.now }
-    ensures { Finds result (scan (resend_due clock) from (drop from (view_legs s.now))) }
+    ensures { result ≡ scan (resend_due clock) from (drop from (view_legs s.now)) }
 {
     let n = leg_count(s);
-    let mut i = from;
-    while i < n {
-        if resend_due(s, i, clock) {
-            return Found::At(i);
-        }
-        i += 1;
-    }
-    Found::Nothing
+    (from..n).find(|i| resend_due(s, *i, clock))
 }
 
 // When the leg needs a poll: at its resend if that comes before its deadline, else at the deadline.
@@ -93,43 +52,14 @@ pub fn wake_at(s: &[u8], i: usize) -> u64
     ensures { result ≡ wake (leg_at s.now i) }
 {
     let d = deadline_at(s, i);
-    if !has_next_at(s, i) {
-        return d;
-    }
-    let n = next_at(s, i);
-    if n < d {
-        return n;
-    }
-    d
-}
-
-// The lesser, if there was one before.
-fn sooner(any: bool, at: u64, w: u64) -> u64
-    ensures { result ≡ (if any then min at w else w) }
-{
-    if !any {
-        return w;
-    }
-    if at < w {
-        return at;
-    }
-    w
+    next_at(s, i).unwrap_or(d).min(d)
 }
 
 // When the first leg needs a poll.
-pub fn next_wake(s: &[u8]) -> Wake
+pub fn next_wake(s: &[u8]) -> Option<u64>
     requires { FitLegs s.now }
-    ensures { perhaps result.some result.at ≡ next_wake (view_legs s.now) }
+    ensures { result ≡ next_wake (view_legs s.now) }
 {
     let n = leg_count(s);
-    let mut any = false;
-    let mut at: u64 = 0;
-    let mut i = 0;
-    while i < n {
-        let w = wake_at(s, i);
-        at = sooner(any, at, w);
-        any = true;
-        i += 1;
-    }
-    Wake { some: any, at: at }
+    (0..n).map(|i| wake_at(s, i)).min()
 }

@@ -1,29 +1,26 @@
 -- What single cells of the i-th leg show, where they stand.
-use Rattle.std.specs.Prelude.{◌≡◌, Bool, false, ◌||◌, List, [], ℕ, ◌+◌, ◌*◌, ◌≤◌, ◌<◌, leb, length, take, drop, replicate, if◌then◌else◌}
+use Rattle.std.specs.Prelude.{◌≡◌, Bool, false, ◌||◌, List, [], ℕ, ◌+◌, ◌*◌, ◌≤◌, ◌<◌, length, take, drop, replicate, if◌then◌else◌, None, Option, Some}
 use Rattle.std.proofs.Math.Path.{refl}
-use Rattle.std.proofs.Common.{sym, ap, ◌∙◌, add-zero, arith, lit≤, lt-ltb, le-ltb, le-leb, take-take, length-take-le, length-drop}
+use Rattle.std.proofs.Common.{sym, ap, ◌∙◌, add-zero, arith, lit≤, take-take, length-take-le, length-drop}
 use Rattle.std.proofs.Math.Bool.{true, not}
-use Rattle.std.proofs.Math.Option.{Option, none, some}
-use Rattle.std.proofs.Math.Dec.{ltb}
-use Rattle.std.proofs.lemmas.Bool.{lt-leb}
 use Rattle.rules.specs.Base.{option, is, Bytes, same}
 use Rattle.rules.specs.Field.{more}
 use Rattle.rules.specs.Data.{Kind, Answered, Leg}
-use Rattle.rules.specs.Legs.{answered, answers, stored_msg2, due, wake}
-use Rattle.lib_laws.specs.Cell.{num, byte_of, flag_of, or_blank}
+use Rattle.rules.specs.Legs.{answered, answers, stored_msg2, due}
+use Rattle.lib_laws.specs.Cell.{num, byte_of, flag_of, option_num, option_bytes, or_blank}
 use Rattle.lib_laws.specs.Fields.{cuts}
 use Rattle.lib_laws.specs.Beside.{same_apart}
-use Rattle.legs_entry.specs.Layout.{leg_ws, at_answer, at_answer_sent, at_deadline, at_digest, at_epoch, at_has_next, at_has_peer, at_lease, at_msg1, at_msg1_bytes, at_msg2, at_msg2_bytes, at_next_resend, at_peer, at_replaces, at_sent, leg_width}
+use Rattle.legs_entry.specs.Layout.{leg_ws, at_answer, at_answer_sent, at_deadline, at_digest, at_epoch, at_has_next, at_has_peer, at_lease, at_msg1, at_msg1_bytes, at_msg2, at_msg2_bytes, at_replaces, at_sent, leg_width}
 use Rattle.legs_entry.specs.View.{answer_from, BlankCells, FitLegs, leg_count, leg_at}
-use Rattle.legs_entry.specs.Entry.{num_zeros, fit_here, leg_here}
+use Rattle.legs_entry.specs.Entry.{fit_here, leg_here, one_more}
 
-pub there : {A : Type 0} (z : A) (o : Option A) → is o ≡ true → o ≡ some (or_blank z o)
-there z none e = cc
-there z (some a) e = refl
+pub there : {A : Type 0} (z : A) (o : Option A) → is o ≡ true → o ≡ Some (or_blank z o)
+there z None e = cc
+there z (Some a) e = refl
 
-pub absent : {A : Type 0} (o : Option A) → is o ≡ false → o ≡ none
-absent none e = refl
-absent (some a) e = cc
+pub absent : {A : Type 0} (o : Option A) → is o ≡ false → o ≡ None
+absent None e = refl
+absent (Some a) e = cc
 
 -- what `if !b` tells
 pub off : {b x : Bool} → b ≡ x → not b ≡ true → x ≡ false
@@ -34,16 +31,9 @@ pub on : {b x : Bool} → b ≡ x → not b ≡ false → x ≡ true
 on {b = true} e q = sym e
 on {b = false} e q = cc
 
-pub clash : {b : Bool} → b ≡ true → b ≡ false → ⊥
-clash e q = let z : ◌≡◌ {A = ℕ} 0 1 = cc in omega arith
-
 -- the peer that a leg names, zeros if none
 abbrev pub named_peer : Leg → Bytes
 named_peer g = or_blank (replicate 16 0) g.peer
-
--- when the next resend is due, 0 if none is to come
-abbrev pub next_resend : Leg → ℕ
-next_resend g = or_blank 0 g.next
 
 abbrev pub no_answer : Answered
 no_answer = record { msg2 = []; ephemeral = replicate 32 0; epoch = 0; replaces = false; sent = false }
@@ -67,13 +57,9 @@ pub record Stands (bs : Bytes) (at n : ℕ) (s : Bytes) : Type 0 where
   pub is : take n (drop at s) ≡ bs
 
 -- ---- where a flag says whether there is a value
-is_flag : {A : Type 0} (x : Bool) (v : A) → x ≡ is (if x then some v else none)
+is_flag : {A : Type 0} (x : Bool) (v : A) → x ≡ is (if x then Some v else None)
 is_flag true v = refl
 is_flag false v = refl
-
-value_is : {A : Type 0} (x : Bool) (v z : A) → (x ≡ false → v ≡ z) → v ≡ or_blank z (if x then some v else none)
-value_is true v z b = refl
-value_is false v z b = b refl
 
 is_answer : (x : Bool) (a : Answered) → x ≡ is (answered (if x then Kind.Answer a else Kind.Dial))
 is_answer true a = refl
@@ -104,19 +90,11 @@ module _ {s : Bytes} {i : ℕ} (f : FitLegs s) (h : i < leg_count s) where
   pub answers_here : flag_of (take 1 (drop (i * leg_width + at_answer) s)) ≡ answers (leg_at s i)
   answers_here = is_answer (flag_of (take 1 (drop (i * leg_width + at_answer) s))) (answer_from (cuts (i * leg_width) 0 leg_ws s)) ∙ ap answers (leg_here s i f h)
 
-  pub named_here : flag_of (take 1 (drop (i * leg_width + at_has_peer) s)) ≡ is (leg_at s i).peer
-  named_here = is_flag (flag_of (take 1 (drop (i * leg_width + at_has_peer) s))) (take 16 (drop (i * leg_width + at_peer) s)) ∙ ap (λ (g : Leg). is g.peer) (leg_here s i f h)
+  pub peer_here : option_bytes (take 1 (drop (i * leg_width + at_has_peer) s)) (take 16 (drop (i * leg_width + at_has_peer + 1) s)) ≡ (leg_at s i).peer
+  peer_here = rw (one_more (i * leg_width) at_has_peer) (ap (λ (g : Leg). g.peer) (leg_here s i f h))
 
-  pub peer_here : take 16 (drop (i * leg_width + at_peer) s) ≡ named_peer (leg_at s i)
-  peer_here = value_is (flag_of (take 1 (drop (i * leg_width + at_has_peer) s))) (take 16 (drop (i * leg_width + at_peer) s)) (replicate 16 0) (fit_here s i f h).peer.blank ∙ ap named_peer (leg_here s i f h)
-
-  pub timed_here : flag_of (take 1 (drop (i * leg_width + at_has_next) s)) ≡ is (leg_at s i).next
-  timed_here = is_flag (flag_of (take 1 (drop (i * leg_width + at_has_next) s))) (num (take 8 (drop (i * leg_width + at_next_resend) s))) ∙ ap (λ (g : Leg). is g.next) (leg_here s i f h)
-
-  pub next_here : num (take 8 (drop (i * leg_width + at_next_resend) s)) ≡ next_resend (leg_at s i)
-  next_here =
-      value_is (flag_of (take 1 (drop (i * leg_width + at_has_next) s))) (num (take 8 (drop (i * leg_width + at_next_resend) s))) 0 (λ e. ap num ((fit_here s i f h).next.blank e) ∙ num_zeros)
-      ∙ ap next_resend (leg_here s i f h)
+  pub next_here : option_num (take 1 (drop (i * leg_width + at_has_next) s)) (take 8 (drop (i * leg_width + at_has_next + 1) s)) ≡ (leg_at s i).next
+  next_here = rw (one_more (i * leg_width) at_has_next) (ap (λ (g : Leg). g.next) (leg_here s i f h))
 
   answer_here : answer_from (cuts (i * leg_width) 0 leg_ws s) ≡ answer_of (leg_at s i)
   answer_here =
@@ -156,15 +134,15 @@ module _ (bs : Bytes) (g : Leg) where
   unfolding stored_msg2
   stored_dial e = rw (absent (answered g.kind) e)
 
-  stored_answer : answers g ≡ true → stored_msg2 bs g ≡ (if not (answer_of g).sent || same bs g.msg1 then some (answer_of g).msg2 else none)
+  stored_answer : answers g ≡ true → stored_msg2 bs g ≡ (if not (answer_of g).sent || same bs g.msg1 then Some (answer_of g).msg2 else None)
   unfolding stored_msg2
   stored_answer e = go (answered g.kind) e
     where
       go : (o : Option Answered) → is o ≡ true
-          → option o none (λ a. if not a.sent || same bs g.msg1 then some a.msg2 else none)
-          ≡ (if not (or_blank no_answer o).sent || same bs g.msg1 then some (or_blank no_answer o).msg2 else none)
-      go none q = cc
-      go (some a) q = refl
+          → option o None (λ a. if not a.sent || same bs g.msg1 then Some a.msg2 else None)
+          ≡ (if not (or_blank no_answer o).sent || same bs g.msg1 then Some (or_blank no_answer o).msg2 else None)
+      go None q = cc
+      go (Some a) q = refl
 
   pub stored_unsent : answers g ≡ true → (answer_of g).sent ≡ false → true ≡ is (stored_msg2 bs g)
   stored_unsent e q = rw (stored_answer e, q)
@@ -179,33 +157,3 @@ module _ (bs : Bytes) (g : Leg) where
 
     pub stored_same : {r : Bool} {n : ℕ} → m ≡ n → r ≡ same bs (take n (drop at s)) → r ≡ is (stored_msg2 bs g)
     stored_same z h = h ∙ rw (← z, k.is) (stored_sent e q)
-
--- ---- the next resend
-module _ (g : Leg) where
-  pub not_due : (now : ℕ) → is g.next ≡ false → false ≡ resend_due now g
-  not_due now e = rw (absent g.next e)
-
-  pub due_is : (now : ℕ) {n : ℕ} → n ≡ next_resend g → is g.next ≡ true → leb n now ≡ resend_due now g
-  due_is now p e = rw p (sym (ap (λ (o : Option ℕ). option o false (due now)) (there 0 g.next e)))
-
-  -- the deadline has come, or not
-  pub past_yes : {now d : ℕ} → d ≡ g.deadline → d ≤ now → past_deadline now g ≡ true
-  past_yes {now} {d} q l = rw (← q) (le-leb d now l)
-
-  pub past_no : {now d : ℕ} → d ≡ g.deadline → now < d → past_deadline now g ≡ false
-  past_no {now} {d} q l = rw (← q) (lt-leb d now l)
-
-  module _ {n d : ℕ} (p : n ≡ next_resend g) (q : d ≡ g.deadline) where
-    wake_is : is g.next ≡ true → (if ltb n d then n else d) ≡ wake g
-    unfolding wake
-    wake_is e = rw (p, q) (sym (ap (λ (o : Option ℕ). option o g.deadline λ n. if ltb n g.deadline then n else g.deadline) (there 0 g.next e)))
-
-    pub wake_resend : is g.next ≡ true → n < d → n ≡ wake g
-    wake_resend e l = (rw (lt-ltb n d l) at (wake_is e))
-
-    pub wake_deadline : is g.next ≡ true → d ≤ n → d ≡ wake g
-    wake_deadline e l = (rw (le-ltb n d l) at (wake_is e))
-
-  pub wake_untimed : {d : ℕ} → d ≡ g.deadline → is g.next ≡ false → d ≡ wake g
-  unfolding wake
-  wake_untimed q e = q ∙ rw (absent g.next e)

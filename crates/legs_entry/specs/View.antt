@@ -1,6 +1,5 @@
 -- What the bytes of an entry, a region and a leg by value show, and their canonical form.
-use Rattle.std.specs.Prelude.{◌≡◌, refl, false, List, [], ◌∷◌, ℕ, length, get_or, replicate, if◌then◌else◌}
-use Rattle.std.proofs.Math.Option.{none, some}
+use Rattle.std.specs.Prelude.{◌≡◌, refl, false, List, [], ◌∷◌, ℕ, get_or, replicate, if◌then◌else◌, None, Option, Some, option_map}
 use Rattle.std.proofs.Common.{lit≤, lit<}
 use Rattle.rules.specs.Base.{Bytes}
 use Rattle.rules.specs.Data.{Answered, Kind, Leg}
@@ -8,8 +7,9 @@ use Rattle.lib_laws.specs.Buffer.{all_any}
 use Rattle.lib_laws.specs.Cell.{num, flag_of, text_of, option_num, option_bytes, Code, Text, Optional}
 use Rattle.lib_laws.specs.Fields.{cuts}
 use Rattle.lib_laws.specs.Store.{Store, entries}
-use Rattle.node_addr.specs.View.{view_message, FitMessage}
+use Rattle.node_addr.specs.Padded.{view}
 use Rattle.legs_entry.specs.Layout.{leg_ws, at_leg_count, leg_cap, leg_width}
+use Rattle.legs_entry.specs.declared.leg.Answer as answer
 use Rattle.legs_entry.specs.declared.leg.Leg as leg
 
 -- ---- an entry: link, deadline, has_next, next, sent, lease, answer, has_peer, peer, answer_sent, replaces, epoch, digest, msg1 and msg2 with their lengths
@@ -71,6 +71,7 @@ FitLegCell c = FitCells (cuts 0 0 leg_ws c)
 abbrev pub view_legs : Bytes → List Leg
 view_legs s = entries leg_of leg_width leg_cap s
 
+-- a clause of each function that is lent the region: a struct that lends it would ask of each caller that the reference within keeps its name
 abbrev pub FitLegs : Bytes → Type 0
 FitLegs s = Store FitLegCell leg_width leg_cap s
 
@@ -101,40 +102,21 @@ fit_zeros = record {
 }
 
 -- ---- a leg by value
-abbrev pub view_kind : leg.Leg → Kind
-view_kind l = if l.answer then Kind.Answer (record {
-  msg2 = view_message l.msg2;
-  ephemeral = l.digest.0;
-  epoch = l.epoch;
-  replaces = l.replaces;
-  sent = l.answer_sent;
-}) else Kind.Dial
+abbrev pub view_answer : answer.Answer → Answered
+view_answer a = record { msg2 = view a.msg2; ephemeral = a.digest.0; epoch = a.epoch; replaces = a.replaces; sent = a.sent }
+
+abbrev pub view_kind : Option answer.Answer → Kind
+view_kind None = Kind.Dial
+view_kind (Some a) = Kind.Answer (view_answer a)
 
 abbrev pub view_leg : leg.Leg → Leg
 view_leg l = record {
   link = l.link.0;
-  peer = if l.has_peer then some l.peer.0 else none;
-  kind = view_kind l;
-  msg1 = view_message l.msg1;
+  peer = option_map (λ p. p.0) l.peer;
+  kind = view_kind l.answer;
+  msg1 = view l.msg1;
   sent = l.sent;
-  next = if l.has_next then some l.next else none;
+  next = l.next;
   deadline = l.deadline;
   lease = l.lease;
 }
-
-pub record BlankLeg (l : leg.Leg) : Type 0 where
-  pub answer_sent : l.answer_sent ≡ false
-  pub replaces : l.replaces ≡ false
-  pub epoch : l.epoch ≡ 0
-  pub digest : l.digest.0 ≡ replicate 32 0
-  pub len2 : l.msg2.len ≡ 0
-  pub msg2 : l.msg2.bytes ≡ replicate 128 0
-
-pub record FitLeg (l : leg.Leg) : Type 0 where
-  pub peer : length l.peer.0 ≡ 16
-  pub digest : length l.digest.0 ≡ 32
-  pub msg1 : FitMessage l.msg1
-  pub msg2 : FitMessage l.msg2
-  pub untimed : l.has_next ≡ false → l.next ≡ 0
-  pub unnamed : l.has_peer ≡ false → l.peer.0 ≡ replicate 16 0
-  pub dial : l.answer ≡ false → BlankLeg l

@@ -1,21 +1,20 @@
 // Single cells of the i-th leg, read where they stand.
-ghost use Rattle.std.specs.Prelude.{◌≡◌, true, false, ◌+◌, ◌*◌, ◌≤◌, ◌<◌, length, take, drop};
+ghost use Rattle.std.specs.Prelude.{◌≡◌, true, false, ◌+◌, ◌*◌, ◌≤◌, ◌<◌, length, take, drop, option_map};
 ghost use Rattle.rules.specs.Base.{is};
 ghost use Rattle.rules.specs.Legs.{answers, stored_msg2};
 ghost use Rattle.legs_entry.specs.View.{FitLegs, leg_count, leg_at};
-ghost use Rattle.legs_entry.specs.At.{named_peer, next_resend, answer_of, Stands};
+ghost use Rattle.legs_entry.specs.At.{answer_of, Stands};
 ghost use Rattle.legs_entry.specs.Layout.{at_msg1_bytes, at_msg2_bytes, leg_width};
 
-use crate::cell::get_len;
 use crate::layout::{
     ANSWER, ANSWER_SENT, DEADLINE, DIGEST, EPOCH, HAS_NEXT, HAS_PEER, LEASE, LEG_WIDTH, MSG1,
-    MSG1_BYTES, MSG2, NEXT, PEER, REPLACES,
+    MSG1_BYTES, MSG2, REPLACES,
 };
 use lib_bytes::compare::eq_bytes;
-use lib_bytes::flag::get_flag;
+use lib_bytes::flag::{get_flag, get_option};
 use lib_bytes::layout::{U32, U64};
-use lib_bytes::read::get_be;
-use node_addr::place::{load_digest, load_node};
+use lib_bytes::read::{get_be, get_byte};
+use node_addr::place::{load_fixed, load_optional};
 use node_addr::{Digest, LinkNo, NodeAddr};
 
 pub fn link_at(s: &[u8], i: usize) -> LinkNo
@@ -23,8 +22,7 @@ pub fn link_at(s: &[u8], i: usize) -> LinkNo
     requires i_bound { i < leg_count s.now }
     ensures { result.0 ≡ (leg_at s.now i).link }
 {
-    let n = get_be(s, i * LEG_WIDTH, U64);
-    LinkNo(n)
+    LinkNo(get_be(s, i * LEG_WIDTH, U64))
 }
 
 pub fn deadline_at(s: &[u8], i: usize) -> u64
@@ -52,40 +50,22 @@ pub fn answers_at(s: &[u8], i: usize) -> bool
     get_flag(s, i * LEG_WIDTH + ANSWER)
 }
 
-// Whether it names a peer.
-pub fn has_peer_at(s: &[u8], i: usize) -> bool
+// The peer that it names, if it does.
+pub fn peer_at(s: &[u8], i: usize) -> Option<NodeAddr>
     requires fit_legs { FitLegs s.now }
     requires i_bound { i < leg_count s.now }
-    ensures { result ≡ is (leg_at s.now i).peer }
+    ensures { option_map (λ x. x.0) result ≡ (leg_at s.now i).peer }
 {
-    get_flag(s, i * LEG_WIDTH + HAS_PEER)
+    load_optional(s, i * LEG_WIDTH + HAS_PEER)
 }
 
-// The peer that it names; zeros if none.
-pub fn peer_at(s: &[u8], i: usize) -> NodeAddr
+// When the next resend is due, if one is to come.
+pub fn next_at(s: &[u8], i: usize) -> Option<u64>
     requires fit_legs { FitLegs s.now }
     requires i_bound { i < leg_count s.now }
-    ensures { result.0 ≡ named_peer (leg_at s.now i) }
+    ensures { result ≡ (leg_at s.now i).next }
 {
-    load_node(s, i * LEG_WIDTH + PEER)
-}
-
-// Whether a resend is to come.
-pub fn has_next_at(s: &[u8], i: usize) -> bool
-    requires fit_legs { FitLegs s.now }
-    requires i_bound { i < leg_count s.now }
-    ensures { result ≡ is (leg_at s.now i).next }
-{
-    get_flag(s, i * LEG_WIDTH + HAS_NEXT)
-}
-
-// When the next resend is due; 0 if none is to come.
-pub fn next_at(s: &[u8], i: usize) -> u64
-    requires fit_legs { FitLegs s.now }
-    requires i_bound { i < leg_count s.now }
-    ensures { result ≡ next_resend (leg_at s.now i) }
-{
-    get_be(s, i * LEG_WIDTH + NEXT, U64)
+    get_option(s, i * LEG_WIDTH + HAS_NEXT)
 }
 
 // The answered msg1's epoch; 0 for a dial.
@@ -103,7 +83,7 @@ pub fn digest_at(s: &[u8], i: usize) -> Digest
     requires i_bound { i < leg_count s.now }
     ensures { result.0 ≡ (answer_of (leg_at s.now i)).ephemeral }
 {
-    load_digest(s, i * LEG_WIDTH + DIGEST)
+    load_fixed(s, i * LEG_WIDTH + DIGEST)
 }
 
 // Whether the answer displaced a holder.
@@ -130,7 +110,7 @@ pub fn msg1_len_at(s: &[u8], i: usize) -> usize
     requires i_bound { i < leg_count s.now }
     ensures { Stands (leg_at s.now i).msg1 (i * leg_width + at_msg1_bytes) result s.now }
 {
-    get_len(s, i * LEG_WIDTH + MSG1)
+    get_byte(s, i * LEG_WIDTH + MSG1) as usize
 }
 
 // The length of msg2, whose bytes stand at MSG2_BYTES; 0 for a dial.
@@ -139,7 +119,7 @@ pub fn msg2_len_at(s: &[u8], i: usize) -> usize
     requires i_bound { i < leg_count s.now }
     ensures { Stands (answer_of (leg_at s.now i)).msg2 (i * leg_width + at_msg2_bytes) result s.now }
 {
-    get_len(s, i * LEG_WIDTH + MSG2)
+    get_byte(s, i * LEG_WIDTH + MSG2) as usize
 }
 
 // Whether it yields its msg2 for the n bytes from `at` on: an answer not yet sent for any, a sent one for those of its msg1.
@@ -155,9 +135,5 @@ pub fn stored_at(s: &[u8], i: usize, rec: &[u8], at: usize, n: usize) -> bool
     if !answer_sent_at(s, i) {
         return true;
     }
-    let k = msg1_len_at(s, i);
-    if k != n {
-        return false;
-    }
-    eq_bytes(rec, at, s, i * LEG_WIDTH + MSG1_BYTES, n)
+    msg1_len_at(s, i) == n && eq_bytes(rec, at, s, i * LEG_WIDTH + MSG1_BYTES, n)
 }

@@ -2,7 +2,6 @@
 #![tactic(auto)]
 
 pub mod at;
-pub mod cell;
 pub mod entry;
 pub mod layout;
 pub mod leg;

@@ -5,5 +5,4 @@ pub mod compare;
 pub mod flag;
 pub mod layout;
 pub mod read;
-pub mod word;
 pub mod write;

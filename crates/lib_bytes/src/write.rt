@@ -2,9 +2,6 @@
 ghost use Rattle.std.specs.Prelude.{◌≡◌, [], ◌∷◌, ◌+◌, ◌%◌, ◌≤◌, ◌<◌, length, take, drop, replicate};
 ghost use Rattle.rules.specs.Field.{digits};
 ghost use Rattle.lib_laws.specs.Splice.{Wrote};
-ghost use Rattle.lib_laws.specs.Little.{lows};
-
-use crate::word::{bswap_2, bswap_4, bswap_8};
 
 // One byte.
 pub fn put_byte(s: &mut [u8], at: usize, v: u8) -> usize
@@ -15,53 +12,15 @@ pub fn put_byte(s: &mut [u8], at: usize, v: u8) -> usize
     at + 1
 }
 
-// The last byte of a number.
-fn last(v: u64) -> u8
-    ensures { result ≡ v % 256 }
-{
-    (v % 256) as u8
-}
-
-// The last two bytes of a number, the least significant first; four, and eight. Each is one store.
-fn store_2(s: &mut [u8], at: usize, w: u64) -> usize
-    requires { at + 2 ≤ length s.old }
-    ensures { Wrote s.old at 2 (lows 2 w) s.new result }
-{
-    let a = put_byte(s, at, last(w));
-    put_byte(s, a, last(w / 256))
-}
-
-fn store_4(s: &mut [u8], at: usize, w: u64) -> usize
-    requires { at + 4 ≤ length s.old }
-    ensures { Wrote s.old at 4 (lows 4 w) s.new result }
-{
-    let p = w / 256;
-    let q = p / 256;
-    let a = put_byte(s, at, last(w));
-    let b = put_byte(s, a, last(p));
-    let c = put_byte(s, b, last(q));
-    put_byte(s, c, last(q / 256))
-}
-
-fn store_8(s: &mut [u8], at: usize, w: u64) -> usize
-    requires { at + 8 ≤ length s.old }
-    ensures { Wrote s.old at 8 (lows 8 w) s.new result }
-{
-    let a = store_4(s, at, w);
-    store_4(s, a, w / 4294967296)
-}
-
 // The last n bytes of a number, the most significant first, byte by byte.
 fn put_few(s: &mut [u8], at: usize, v: u64, n: usize) -> usize
     requires { at + n ≤ length s.old }
     ensures { Wrote s.old at n (digits n v) s.new result }
 {
-    let mut i = n;
     let mut w = v;
-    while 0 < i {
-        i -= 1;
+    for i in (0..n).rev() {
         s[at + i] = (w % 256) as u8;
-        w = w / 256;
+        w /= 256;
     }
     at + n
 }
@@ -71,16 +30,12 @@ pub fn put_be(s: &mut [u8], at: usize, v: u64, n: usize) -> usize
     requires { at + n ≤ length s.old }
     ensures { Wrote s.old at n (digits n v) s.new result }
 {
-    if n == 8 {
-        return store_8(s, at, bswap_8(v));
+    match n {
+        8 => put(s, at, v.to_be_bytes()),
+        4 => put(s, at, ((v % 4294967296) as u32).to_be_bytes()),
+        2 => put(s, at, ((v % 65536) as u16).to_be_bytes()),
+        _ => put_few(s, at, v, n),
     }
-    if n == 4 {
-        return store_4(s, at, bswap_4(v));
-    }
-    if n == 2 {
-        return store_2(s, at, bswap_2(v));
-    }
-    put_few(s, at, v, n)
 }
 
 // n bytes of another slice, from a place there.
@@ -89,44 +44,23 @@ pub fn put_run(s: &mut [u8], at: usize, t: &[u8], from: usize, n: usize) -> usiz
     requires n_in_bounds_2 { from + n ≤ length t.now }
     ensures { Wrote s.old at n (take n (drop from t.now)) s.new result }
 {
-    let mut i = 0;
-    while i < n {
-        s[at + i] = t[from + i];
-        i += 1;
-    }
+    s[at..at + n].copy_from_slice(&t[from..from + n]);
     at + n
 }
 
-// 16 bytes.
-pub fn put_16(s: &mut [u8], at: usize, b: [u8; 16]) -> usize
-    requires { at + 16 ≤ length s.old }
-    ensures { Wrote s.old at 16 b s.new result }
+// N bytes.
+pub fn put<const N: usize>(s: &mut [u8], at: usize, b: [u8; N]) -> usize
+    requires { at + N ≤ length s.old }
+    ensures { Wrote s.old at N b.entry s.new result }
 {
-    put_run(s, at, &b, 0, 16)
+    put_run(s, at, &b, 0, N)
 }
 
-// 32 bytes.
-pub fn put_32(s: &mut [u8], at: usize, b: [u8; 32]) -> usize
-    requires { at + 32 ≤ length s.old }
-    ensures { Wrote s.old at 32 b s.new result }
-{
-    put_run(s, at, &b, 0, 32)
-}
-
-// The first n of 48 bytes.
-pub fn put_48(s: &mut [u8], at: usize, b: [u8; 48], n: usize) -> usize
-    requires n_bound { n ≤ 48 }
+// The first n of N bytes.
+pub fn put_first<const N: usize>(s: &mut [u8], at: usize, b: [u8; N], n: usize) -> usize
+    requires n_bound { n ≤ N }
     requires n_in_bounds { at + n ≤ length s.old }
-    ensures { Wrote s.old at n (take n b) s.new result }
-{
-    put_run(s, at, &b, 0, n)
-}
-
-// The first n of 128 bytes.
-pub fn put_128(s: &mut [u8], at: usize, b: [u8; 128], n: usize) -> usize
-    requires n_bound { n ≤ 128 }
-    requires n_in_bounds { at + n ≤ length s.old }
-    ensures { Wrote s.old at n (take n b) s.new result }
+    ensures { Wrote s.old at n (take n b.entry) s.new result }
 {
     put_run(s, at, &b, 0, n)
 }
@@ -136,10 +70,6 @@ pub fn clear(s: &mut [u8], at: usize, n: usize) -> usize
     requires { at + n ≤ length s.old }
     ensures { Wrote s.old at n (replicate n 0) s.new result }
 {
-    let mut i = 0;
-    while i < n {
-        s[at + i] = 0;
-        i += 1;
-    }
+    s[at..at + n].fill(0);
     at + n
 }

@@ -1,8 +1,7 @@
--- Two runs of bytes compared one by one: whether they are the same, and their order, the first difference deciding.
-use Rattle.std.specs.Prelude.{ℕ, suc, ◌+◌, ◌≤◌, ◌<◌, ◌≡◌, refl, Bool, true, false, ◌&&◌, List, [], ◌∷◌, eqb, ltb, length, take, drop, get_or}
-use Rattle.std.proofs.Common.{sym, ap, ap₂, ◌∙◌, add-one, arith, eqb-true, eq-eqb, ne_eqb, rules, drop-cons, get_or-take, get_or-drop, length-take-le, drop_of_length-le, length-drop}
+-- Runs of bytes compared: whether they are the same; a run of a list from a place on, byte by byte.
+use Rattle.std.specs.Prelude.{ℕ, suc, ◌+◌, ◌≤◌, ◌<◌, ◌≡◌, refl, Bool, true, false, ◌&&◌, List, [], ◌∷◌, eqb, length, take, drop, get_or}
+use Rattle.std.proofs.Common.{sym, ap, ap₂, ◌∙◌, arith, eqb-true, eq-eqb, drop-cons, get_or-take, get_or-drop, length-take-le, drop_of_length-le, length-drop}
 use Rattle.rules.specs.Base.{same}
-use Rattle.rules.specs.Std.{before}
 
 pub same_refl : (xs : List ℕ) → same xs xs ≡ true
 same_refl [] = refl
@@ -39,7 +38,7 @@ same_swap xs ys = go (same ys xs) refl
     go true e = same_yes xs ys (sym (same_true ys xs e))
     go false e = same_no xs ys (λ q. absurd (let z : ◌≡◌ {A = Bool} true false = sym (same_yes ys xs (sym q)) ∙ e in let y : ◌≡◌ {A = ℕ} 0 1 = cc in omega arith))
 
--- ---- the loops
+-- ---- a run from a place on
 pub taken_cons : (n : ℕ) (xs : List ℕ) (i : ℕ) → n ≤ length xs → i < n → drop i (take n xs) ≡ get_or xs i 0 ∷ drop (suc i) (take n xs)
 taken_cons n xs i h p = drop-cons (take n xs) i 0 (rw (length-take-le n xs h) p) ∙ rw (get_or-take n xs i 0 p)
 
@@ -52,46 +51,3 @@ run_cons n s at i h p = taken_cons n (drop at s) i (rw length-drop (omega arith)
 
 pub run_end : (n : ℕ) (s : List ℕ) (at i : ℕ) → at + n ≤ length s → n ≤ i → drop i (take n (drop at s)) ≡ []
 run_end n s at i h p = taken_end n (drop at s) i (rw length-drop (omega arith)) p
-
--- the invariant of a loop that goes along n bytes of s from `at` and of t from `from` at once and stands at i: o, the answer, is g of what is left of both
-pub record Beside {C : Type 0} (o : C) (g : List ℕ → List ℕ → C) (n : ℕ) (s : List ℕ) (at : ℕ) (t : List ℕ) (from i : ℕ) : Type 0 where
-  pub within : i ≤ n
-  pub room : at + n ≤ length s
-  pub room' : from + n ≤ length t
-  pub left : o ≡ g (drop i (take n (drop at s))) (drop i (take n (drop from t)))
-
-module _ (n : ℕ) (s : List ℕ) (at : ℕ) (t : List ℕ) (from : ℕ) (h : at + n ≤ length s) (h' : from + n ≤ length t) where
-  pub same_start : Beside (same (take n (drop at s)) (take n (drop from t))) same n s at t from 0
-  same_start = record { within = omega arith; room = h; room' = h'; left = refl }
-
-  pub before_start : Beside (before (take n (drop at s)) (take n (drop from t))) before n s at t from 0
-  before_start = record { within = omega arith; room = h; room' = h'; left = refl }
-
-module _ {C : Type 0} {o : C} {g : List ℕ → List ℕ → C} {n : ℕ} {s : List ℕ} {at : ℕ} {t : List ℕ} {from i : ℕ} (a : Beside o g n s at t from i) where
-  beside_at : i < n → o ≡ g (get_or s (at + i) 0 ∷ drop (suc i) (take n (drop at s))) (get_or t (from + i) 0 ∷ drop (suc i) (take n (drop from t)))
-  beside_at p = a.left ∙ rw (run_cons n s at i a.room p, run_cons n t from i a.room' p)
-
-  beside_end : n ≤ i → o ≡ g [] []
-  beside_end p = a.left ∙ rw (run_end n s at i a.room p, run_end n t from i a.room' p)
-
-module _ {o : Bool} {n : ℕ} {s : List ℕ} {at : ℕ} {t : List ℕ} {from i : ℕ} (a : Beside o same n s at t from i) where
-  pub same_stop : i < n → (get_or s (at + i) 0 ≡ get_or t (from + i) 0 → ⊥) → false ≡ o
-  same_stop p d = sym (beside_at a p ∙ rw (ne_eqb (get_or s (at + i) 0) (get_or t (from + i) 0) d))
-
-  pub same_on : i < n → get_or s (at + i) 0 ≡ get_or t (from + i) 0 → Beside o same n s at t from (i + 1)
-  same_on p e = record { within = omega arith; room = a.room; room' = a.room'; left = beside_at a p ∙ rw (eq-eqb (get_or s (at + i) 0) (get_or t (from + i) 0) e, add-one) }
-
-  pub same_end : n ≤ i → true ≡ o
-  same_end p = sym (beside_end a p)
-
-module _ {o : Bool} {n : ℕ} {s : List ℕ} {at : ℕ} {t : List ℕ} {from i : ℕ} (a : Beside o before n s at t from i) where
-  pub before_stop : i < n → (get_or s (at + i) 0 ≡ get_or t (from + i) 0 → ⊥) → ltb (get_or s (at + i) 0) (get_or t (from + i) 0) ≡ o
-  before_stop p d = sym (beside_at a p ∙ rw (ne_eqb (get_or s (at + i) 0) (get_or t (from + i) 0) d))
-
-  pub before_on : i < n → get_or s (at + i) 0 ≡ get_or t (from + i) 0 → Beside o before n s at t from (i + 1)
-  before_on p e = record { within = omega arith; room = a.room; room' = a.room'; left = beside_at a p ∙ rw (eq-eqb (get_or s (at + i) 0) (get_or t (from + i) 0) e, add-one) }
-
-  pub before_end : n ≤ i → false ≡ o
-  before_end p = sym (beside_end a p)
-
-pub ruleset comparing = (rules, same_start, same_stop, same_on, same_end, before_start, before_stop, before_on, before_end)

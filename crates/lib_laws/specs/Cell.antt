@@ -1,10 +1,12 @@
 -- A cell is a field's bytes within an entry. What cells show, when they are canonical, and that canonical cells which show the same are the same.
-use Rattle.std.specs.Prelude.{◌≡◌, refl, Bool, true, false, [], ◌∷◌, ℕ, zero, suc, ◌+◌, ◌*◌, ◌≤◌, ◌<◌, eqb, length, take, drop, get_or, replicate, if◌then◌else◌}
+use Rattle.std.specs.Prelude.{◌≡◌, refl, Bool, true, false, [], ◌∷◌, ◌++◌, ℕ, zero, suc, ◌+◌, ◌*◌, ◌^◌, ◌≤◌, ◌<◌, eqb, length, take, drop, get_or, replicate, if◌then◌else◌, None, Option, Some, is_some, unwrap_or, option_map}
 use Rattle.std.proofs.Common.{sym, ap, ◌∙◌, add-zero, arith, lit<, get_or-take, get_or-drop, length-take, take-append-drop}
-use Rattle.std.proofs.Math.Option.{Option, none, some}
-use Rattle.rules.specs.Base.{option, one, Bytes, All}
+use Rattle.std.proofs.lemmas.List.{length-replicate}
+use Rattle.rules.specs.Base.{option, is, one, Bytes, All}
 use Rattle.rules.specs.Bounds.{IsByte}
-use Rattle.rules.specs.Field.{more}
+use Rattle.rules.specs.Field.{more, digits}
+use Rattle.lib_laws.specs.Splice.{length_digits}
+use Rattle.lib_laws.specs.Round.{more_digits}
 use Rattle.lib_laws.specs.Shift.{Kept}
 use Rattle.lib_laws.specs.Buffer.{Any}
 
@@ -26,10 +28,10 @@ text_of n s = take (byte_of n) s
 
 -- a flag cell and the value's cell, zeros where there is none
 abbrev pub option_num : Bytes → Bytes → Option ℕ
-option_num f s = if flag_of f then some (num s) else none
+option_num f s = if flag_of f then Some (num s) else None
 
 abbrev pub option_bytes : Bytes → Bytes → Option Bytes
-option_bytes f s = if flag_of f then some s else none
+option_bytes f s = if flag_of f then Some s else None
 
 -- an option's value, or the blank one
 abbrev pub or_blank : {A : Type 0} → A → Option A → A
@@ -112,7 +114,7 @@ text_same {cap} {n} {m} {s} {u} a b e =
 pub option_num_same : {w : ℕ} {f g s u : Bytes} → Optional w f s → Optional w g u → All IsByte s → All IsByte u → option_num f s ≡ option_num g u → (f ≡ g) × (s ≡ u)
 option_num_same {w} {f} {g} {s} {u} a b p q e = go (flag_of f) (flag_of g) refl refl e
   where
-    go : (x y : Bool) → flag_of f ≡ x → flag_of g ≡ y → (if x then some (num s) else none) ≡ (if y then some (num u) else none) → (f ≡ g) × (s ≡ u)
+    go : (x y : Bool) → flag_of f ≡ x → flag_of g ≡ y → (if x then Some (num s) else None) ≡ (if y then Some (num u) else None) → (f ≡ g) × (s ≡ u)
     go true true h k z = (flag_same a.flag b.flag (h ∙ sym k), num_same s u p q (a.size ∙ sym b.size) (cc))
     go true false h k z = let c : ◌≡◌ {A = ℕ} 0 1 = cc in absurd (omega arith)
     go false true h k z = let c : ◌≡◌ {A = ℕ} 0 1 = cc in absurd (omega arith)
@@ -121,7 +123,7 @@ option_num_same {w} {f} {g} {s} {u} a b p q e = go (flag_of f) (flag_of g) refl 
 pub option_bytes_same : {w : ℕ} {f g s u : Bytes} → Optional w f s → Optional w g u → option_bytes f s ≡ option_bytes g u → (f ≡ g) × (s ≡ u)
 option_bytes_same {w} {f} {g} {s} {u} a b e = go (flag_of f) (flag_of g) refl refl e
   where
-    go : (x y : Bool) → flag_of f ≡ x → flag_of g ≡ y → (if x then some s else none) ≡ (if y then some u else none) → (f ≡ g) × (s ≡ u)
+    go : (x y : Bool) → flag_of f ≡ x → flag_of g ≡ y → (if x then Some s else None) ≡ (if y then Some u else None) → (f ≡ g) × (s ≡ u)
     go true true h k z = (flag_same a.flag b.flag (h ∙ sym k), cc)
     go true false h k z = let c : ◌≡◌ {A = ℕ} 0 1 = cc in absurd (omega arith)
     go false true h k z = let c : ◌≡◌ {A = ℕ} 0 1 = cc in absurd (omega arith)
@@ -136,3 +138,45 @@ flag_shows false = refl
 pub flag_code : (b : Bool) → Code 2 (one b ∷ [])
 flag_code true = record { size = refl; low = lit< tt }
 flag_code false = record { size = refl; low = lit< tt }
+
+-- ---- optional cells as they are written: the flag, then the value, zeros where there is none
+abbrev pub flag_cell : {A : Type 0} → Option A → Bytes
+flag_cell o = one (is o) ∷ []
+
+abbrev pub number_cells : Option ℕ → Bytes
+number_cells o = flag_cell o ++ digits 8 (or_blank 0 o)
+
+abbrev pub bytes_cells : ℕ → Option Bytes → Bytes
+bytes_cells n o = flag_cell o ++ or_blank (replicate n 0) o
+
+pub optional_number : (o : Option ℕ) → Optional 8 (flag_cell o) (digits 8 (or_blank 0 o))
+unfolding digits
+optional_number None = record { flag = flag_code false; size = refl; blank = λ e. refl }
+optional_number (Some v) = record { flag = flag_code true; size = length_digits 8 v; blank = λ e. cc }
+
+pub optional_bytes : (n : ℕ) (o : Option Bytes) → option o (Unit {0}) (λ s. length s ≡ n) → Optional n (flag_cell o) (or_blank (replicate n 0) o)
+optional_bytes n None h = record { flag = flag_code false; size = length-replicate n 0; blank = λ e. refl }
+optional_bytes n (Some s) h = record { flag = flag_code true; size = h; blank = λ e. cc }
+
+pub number_shows : (o : Option ℕ) → or_blank 0 o < 256 ^ 8 → option_num (flag_cell o) (digits 8 (or_blank 0 o)) ≡ o
+number_shows None h = refl
+number_shows (Some v) h = rw (more_digits 8 v h)
+
+pub bytes_show : (n : ℕ) (o : Option Bytes) → option_bytes (flag_cell o) (or_blank (replicate n 0) o) ≡ o
+bytes_show n None = refl
+bytes_show n (Some s) = refl
+
+-- the library's words for these
+pub is_some_is : {A : Type 0} (o : Option A) → is_some o ≡ is o
+is_some_is None = refl
+is_some_is (Some a) = refl
+
+pub unwrap_or_is : {A : Type 0} (z : A) (o : Option A) → unwrap_or o z ≡ or_blank z o
+unwrap_or_is z None = refl
+unwrap_or_is z (Some a) = refl
+
+pub mapped_some : {A B : Type 0} (f : A → B) {o : Option A} {p : Option B} {a : A} → option_map f o ≡ p → o ≡ Some a → p ≡ Some (f a)
+mapped_some f e q = sym e ∙ ap (option_map f) q
+
+pub mapped_none : {A B : Type 0} (f : A → B) {o : Option A} {p : Option B} → option_map f o ≡ p → o ≡ None → p ≡ None
+mapped_none f e q = sym e ∙ ap (option_map f) q

@@ -1,8 +1,7 @@
 -- What stands at the front of a list of bytes: numbers and runs, read where they stand.
-use Rattle.std.specs.Prelude.{ℕ, ◌+◌, ◌-◌, ◌*◌, ◌^◌, ◌≤◌, ◌<◌, ◌≡◌, refl, List, length, take, drop, get_or}
+use Rattle.std.specs.Prelude.{ℕ, ◌+◌, ◌-◌, ◌*◌, ◌^◌, ◌≤◌, ◌<◌, ◌≡◌, refl, List, length, take, drop, get_or, None, Some}
 use Rattle.std.proofs.Math.Path.{sym}
 use Rattle.std.proofs.Common.{◌∙◌, lt_of_lt_of_le, pow-suc, add-one, arith, rules, le-leb, lit<, Fits, take_all, drop-cons, length-drop}
-use Rattle.std.proofs.Math.Option.{none, some}
 use Rattle.std.proofs.Math.Nat.{pow-le-pow_right}
 use Rattle.std.proofs.lemmas.Bool.{lt-leb}
 use Rattle.std.proofs.Math.Arith.{digits_lt}
@@ -15,31 +14,31 @@ pub rest_of_lem : (a : ℕ) (s : List ℕ) → take (length s - a) (drop a s) �
 rest_of_lem a s = take_all (length s - a) (drop a s) (rw length-drop (omega arith))
 
 module _ (n : ℕ) (s : List ℕ) where
-  pub bytes_yes : n ≤ length s → bytes n s ≡ some (take n s, drop n s)
+  pub bytes_yes : n ≤ length s → bytes n s ≡ Some (take n s, drop n s)
   unfolding bytes
   bytes_yes h = rw (le-leb n (length s) h)
 
-  pub bytes_no : length s < n → bytes n s ≡ none
+  pub bytes_no : length s < n → bytes n s ≡ None
   unfolding bytes
   bytes_no h = rw (lt-leb n (length s) h)
 
-  pub number_yes : n ≤ length s → number n s ≡ some (more 0 (take n s), drop n s)
+  pub number_yes : n ≤ length s → number n s ≡ Some (more 0 (take n s), drop n s)
   unfolding number
   number_yes h = rw (le-leb n (length s) h)
 
-  pub number_no : length s < n → number n s ≡ none
+  pub number_no : length s < n → number n s ≡ None
   unfolding number
   number_no h = rw (lt-leb n (length s) h)
 
-  pub up_to_yes : (limit : ℕ) → n ≤ limit → n ≤ length s → up_to limit n s ≡ some (take n s, drop n s)
+  pub up_to_yes : (limit : ℕ) → n ≤ limit → n ≤ length s → up_to limit n s ≡ Some (take n s, drop n s)
   unfolding up_to
   up_to_yes limit k h = rw (le-leb n limit k, bytes_yes h)
 
-  pub up_to_big : (limit : ℕ) → limit < n → up_to limit n s ≡ none
+  pub up_to_big : (limit : ℕ) → limit < n → up_to limit n s ≡ None
   unfolding up_to
   up_to_big limit k = rw (lt-leb n limit k)
 
-  pub up_to_no : (limit : ℕ) → n ≤ limit → length s < n → up_to limit n s ≡ none
+  pub up_to_no : (limit : ℕ) → n ≤ limit → length s < n → up_to limit n s ≡ None
   unfolding up_to
   up_to_no limit k h = rw (le-leb n limit k, bytes_no h)
 

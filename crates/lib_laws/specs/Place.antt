@@ -2,9 +2,8 @@
 use Prim.Native.Nat.{ℕ, suc, ◌-◌, ◌≤◌, ◌<◌, suc-le-suc}
 use Rattle.std.proofs.Math.Path.{◌≡◌, refl, subst}
 use Rattle.std.proofs.Common.{ap, ◌∙◌}
-use Rattle.std.specs.Prelude.{Bool, length, take, drop, get_or, set, if◌then◌else◌}
+use Rattle.std.specs.Prelude.{Bool, length, take, drop, get_or, set, if◌then◌else◌, None, Some}
 use Rattle.std.proofs.Math.Bool.{true, false}
-use Rattle.std.proofs.Math.Option.{none, some}
 use mathlib.Core.List.{List, [], ◌∷◌, ◌++◌, tail}
 use Rattle.std.proofs.Math.Numerals.{add-one}
 use native.Mathlib.Omega.{arith}
@@ -19,12 +18,12 @@ pub data First {A : Type 0} (t : A → Bool) : ℕ → List A → Type 0 where
   there : {x : A} {s : List A} {i : ℕ} → t x ≡ false → First t i s → First t (suc i) (x ∷ s)
 
 module _ {A : Type 0} (t : A → Bool) where
-  scan_first : (k : ℕ) (s : List A) (i : ℕ) → scan t k s ≡ some i → (k ≤ i) × First t (i - k) s
+  scan_first : (k : ℕ) (s : List A) (i : ℕ) → scan t k s ≡ Some i → (k ≤ i) × First t (i - k) s
   unfolding scan
   scan_first k [] i e = let z : ◌≡◌ {A = ℕ} 0 1 = cc in absurd (omega arith)
   scan_first k (x ∷ s) i e = go (t x) refl e (scan_first (suc k) s i)
     where
-      go : (b : Bool) → t x ≡ b → (if b then some k else scan t (suc k) s) ≡ some i → (scan t (suc k) s ≡ some i → (suc k ≤ i) × First t (i - suc k) s)
+      go : (b : Bool) → t x ≡ b → (if b then Some k else scan t (suc k) s) ≡ Some i → (scan t (suc k) s ≡ Some i → (suc k ≤ i) × First t (i - suc k) s)
           → (k ≤ i) × First t (i - k) (x ∷ s)
       go true q e r =
           let y : k ≡ i = cc in
@@ -36,22 +35,22 @@ module _ {A : Type 0} (t : A → Bool) where
           let z : suc (i - suc k) ≡ i - k = omega arith in
           (omega arith, subst (λ (j : ℕ). First t j (x ∷ s)) z (there q l.1))
 
-  pub first_of : (s : List A) (i : ℕ) → scan t 0 s ≡ some i → First t i s
+  pub first_of : (s : List A) (i : ℕ) → scan t 0 s ≡ Some i → First t i s
   first_of s i e =
       let z : i - 0 ≡ i = omega arith in
       subst (λ (j : ℕ). First t j s) z (scan_first 0 s i e).1
 
   -- nothing passes
-  scan_none : (k : ℕ) (s : List A) → scan t k s ≡ none → All (λ x. t x ≡ false) s
+  scan_none : (k : ℕ) (s : List A) → scan t k s ≡ None → All (λ x. t x ≡ false) s
   unfolding scan
   scan_none k [] e = tt
   scan_none k (x ∷ s) e = go (t x) refl e (scan_none (suc k) s)
     where
-      go : (b : Bool) → t x ≡ b → (if b then some k else scan t (suc k) s) ≡ none → (scan t (suc k) s ≡ none → All (λ x. t x ≡ false) s) → All (λ x. t x ≡ false) (x ∷ s)
+      go : (b : Bool) → t x ≡ b → (if b then Some k else scan t (suc k) s) ≡ None → (scan t (suc k) s ≡ None → All (λ x. t x ≡ false) s) → All (λ x. t x ≡ false) (x ∷ s)
       go true q e r = let z : ◌≡◌ {A = ℕ} 0 1 = cc in absurd (omega arith)
       go false q e r = (q, r e)
 
-  pub none_of : (s : List A) → scan t 0 s ≡ none → All (λ x. t x ≡ false) s
+  pub none_of : (s : List A) → scan t 0 s ≡ None → All (λ x. t x ≡ false) s
   none_of s e = scan_none 0 s e
 
 -- ---- where i is the first place
@@ -64,7 +63,7 @@ module _ {A : Type 0} {t : A → Bool} where
   first_passes d (here e) = e
   first_passes d (there e f) = first_passes d f
 
-  first_find : {i : ℕ} {s : List A} (d : A) → First t i s → find t s ≡ some (get_or s i d)
+  first_find : {i : ℕ} {s : List A} (d : A) → First t i s → find t s ≡ Some (get_or s i d)
   first_find d (here e) = rw e
   first_find d (there e f) = rw e (first_find d f)
 
@@ -80,14 +79,14 @@ module _ {A : Type 0} {t : A → Bool} where
   first_without (here e) = rw e
   first_without (there {x = x} e f) = rw e (ap (λ (s : List A). x ∷ s) (first_without f))
 
-module _ {A : Type 0} (t : A → Bool) (s : List A) (i : ℕ) (e : scan t 0 s ≡ some i) where
+module _ {A : Type 0} (t : A → Bool) (s : List A) (i : ℕ) (e : scan t 0 s ≡ Some i) where
   pub place_within : i < length s
   place_within = first_within (first_of t s i e)
 
   pub place_passes : (d : A) → t (get_or s i d) ≡ true
   place_passes d = first_passes d (first_of t s i e)
 
-  pub find_at : (d : A) → find t s ≡ some (get_or s i d)
+  pub find_at : (d : A) → find t s ≡ Some (get_or s i d)
   find_at d = first_find d (first_of t s i e)
 
   pub any_at : any t s ≡ true
@@ -102,7 +101,7 @@ module _ {A : Type 0} (t : A → Bool) (s : List A) (i : ℕ) (e : scan t 0 s �
 
 -- ---- where nothing passes
 module _ {A : Type 0} (t : A → Bool) where
-  no_find : (s : List A) → All (λ x. t x ≡ false) s → find t s ≡ none
+  no_find : (s : List A) → All (λ x. t x ≡ false) s → find t s ≡ None
   no_find [] a = refl
   no_find (x ∷ s) a = rw a.0 (no_find s a.1)
 
@@ -118,8 +117,8 @@ module _ {A : Type 0} (t : A → Bool) where
   no_alter g [] a = refl
   no_alter g (x ∷ s) a = rw a.0 (ap (λ (u : List A). x ∷ u) (no_alter g s a.1))
 
-module _ {A : Type 0} (t : A → Bool) (s : List A) (e : scan t 0 s ≡ none) where
-  pub find_nowhere : find t s ≡ none
+module _ {A : Type 0} (t : A → Bool) (s : List A) (e : scan t 0 s ≡ None) where
+  pub find_nowhere : find t s ≡ None
   find_nowhere = no_find t s (none_of t s e)
 
   pub any_nowhere : any t s ≡ false
@@ -143,10 +142,10 @@ module _ {A : Type 0} (less : A → A → Bool) (a : A) where
   no_insert [] q = refl
   no_insert (x ∷ s) q = rw q.0 (ap (λ (u : List A). x ∷ u) (no_insert s q.1))
 
-  pub insert_at : (s : List A) (i : ℕ) → scan (less a) 0 s ≡ some i → std.insert less a s ≡ insert i a s
+  pub insert_at : (s : List A) (i : ℕ) → scan (less a) 0 s ≡ Some i → std.insert less a s ≡ insert i a s
   insert_at s i e = first_insert (first_of (less a) s i e)
 
-  pub insert_last : (s : List A) → scan (less a) 0 s ≡ none → std.insert less a s ≡ s ++ (a ∷ [])
+  pub insert_last : (s : List A) → scan (less a) 0 s ≡ None → std.insert less a s ≡ s ++ (a ∷ [])
   insert_last s e = no_insert s (none_of (less a) s e)
 
 -- an insertion at the end

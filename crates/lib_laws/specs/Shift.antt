@@ -1,12 +1,12 @@
--- A list that a loop overwrites from the front, element by element: `blend k ys xs` has its first k elements from ys and the others from xs.
+-- A list overwritten from the front: `blend k ys xs` has its first k elements from ys and the others from xs.
 -- What a removal, an insertion and a push do to the places of a map is a blend towards `erase at xs`, `insert at e xs`.
 use Prim.Native.Nat.{ℕ, zero, suc, ◌+◌, ◌-◌, ◌≤◌, ◌<◌}
 use Rattle.std.specs.Prelude.{◌≡◌, set, replicate}
 use Rattle.std.proofs.Math.Path.{refl, sym, ap}
-use Rattle.std.proofs.Common.{◌∙◌, not-suc-le-zero, le_of_suc-le-suc, arith, rules, get_or-take, drop-drop, drop-set-lt, take-suc-set, length-take-le, length-append, length-drop, length-set, take-append-drop}
+use Rattle.std.proofs.Common.{◌∙◌, not-suc-le-zero, le_of_suc-le-suc, arith, get_or-take, drop-drop, drop-set-lt, take-suc-set, length-take-le, length-append, length-drop, length-set}
 use mathlib.Core.List.{List, [], ◌∷◌, ◌++◌, map, map-append}
 use Rattle.std.proofs.Math.Numerals.{add-one}
-use Rattle.std.proofs.Math.Seq.{take-set-lt, get_or_at, take_at, drop_at}
+use Rattle.std.proofs.Math.Seq.{take-set-lt, take_at, drop_at}
 use Rattle.std.proofs.lemmas.List.{take-set-le, length-map}
 use Rattle.rules.specs.Base.{All}
 use Rattle.std.proofs.Math.ListN.{length, take, drop, get_or, length-take, get_or-map}
@@ -28,15 +28,6 @@ module _ {A : Type 0} where
   blend_more zero (y ∷ ys) (x ∷ xs) d p q = refl
   blend_more (suc k) (y ∷ ys) (x ∷ xs) d p q = ap (λ (t : List A). y ∷ t) (blend_more k ys xs d (le_of_suc-le-suc p) (le_of_suc-le-suc q))
 
-  -- past k a blend is the old list
-  blend_old : (k j : ℕ) (ys xs : List A) (d : A) → k ≤ length ys → k ≤ j → j < length xs → get_or (blend k ys xs) j d ≡ get_or xs j d
-  unfolding blend
-  blend_old zero j ys xs d p q r = refl
-  blend_old (suc k) j [] xs d p q r = absurd (not-suc-le-zero p)
-  blend_old (suc k) j (y ∷ ys) [] d p q r = absurd (not-suc-le-zero r)
-  blend_old (suc k) zero (y ∷ ys) (x ∷ xs) d p q r = absurd (not-suc-le-zero q)
-  blend_old (suc k) (suc j) (y ∷ ys) (x ∷ xs) d p q r = blend_old k j ys xs d (le_of_suc-le-suc p) (le_of_suc-le-suc q) (le_of_suc-le-suc r)
-
   pub take_blend : (k : ℕ) (ys xs : List A) → k ≤ length ys → take k (blend k ys xs) ≡ take k ys
   unfolding blend
   take_blend k ys xs p = take_at (take k ys) (drop k xs) k (length-take-le k ys p)
@@ -54,22 +45,6 @@ module _ {A : Type 0} where
   unfolding erase
   length_erase i xs p = simp (length-append, length-take, length-drop) (omega arith)
 
-  -- where a removal starts, nothing is moved yet
-  erase_start : (i : ℕ) (xs : List A) → i ≤ length xs → xs ≡ blend i (erase i xs) xs
-  unfolding blend erase
-  erase_start i xs p = sym (rw (take_at (take i xs) (drop (i + 1) xs) i (length-take-le i xs p), take-append-drop))
-
-  erase_after : (i k : ℕ) (xs : List A) (d : A) → i ≤ k → get_or (erase i xs) k d ≡ get_or xs (suc k) d
-  unfolding erase
-  erase_after i k xs d p = rw add-one (go i k xs p)
-    where
-      go : (i k : ℕ) (xs : List A) → i ≤ k → get_or (take i xs ++ drop (suc i) xs) k d ≡ get_or xs (suc k) d
-      go zero k [] p = refl
-      go zero k (x ∷ xs) p = refl
-      go (suc i) k [] p = refl
-      go (suc i) zero (x ∷ xs) p = absurd (not-suc-le-zero p)
-      go (suc i) (suc k) (x ∷ xs) p = go i k xs (le_of_suc-le-suc p)
-
   -- what is left of the first k + 1 elements, once the last turn is made and the last place is cleared
   pub take_erase : (i k : ℕ) (xs : List A) → i ≤ k → k < length xs → take k (erase i xs) ≡ erase i (take (suc k) xs)
   unfolding erase
@@ -85,21 +60,6 @@ module _ {A : Type 0} where
   pub length_insert : (i : ℕ) (e : A) (xs : List A) → i ≤ length xs → length (insert i e xs) ≡ length xs + 1
   unfolding insert
   length_insert i e xs p = simp (length-append, length-take, length-drop) (omega arith)
-
-  insert_start : (i : ℕ) (e : A) (xs : List A) → i ≤ length xs → xs ≡ blend i (insert i e xs) xs
-  unfolding blend insert
-  insert_start i e xs p = sym (rw (take_at (take i xs) (e ∷ drop i xs) i (length-take-le i xs p), take-append-drop))
-
-  insert_at : (i : ℕ) (e : A) (xs : List A) (d : A) → i ≤ length xs → get_or (insert i e xs) i d ≡ e
-  unfolding insert
-  insert_at i e xs d p = get_or_at (take i xs) e (drop i xs) d i (length-take-le i xs p)
-
-  insert_after : (i k : ℕ) (e : A) (xs : List A) (d : A) → i ≤ k → get_or (insert i e xs) (suc k) d ≡ get_or xs k d
-  unfolding insert
-  insert_after zero k e xs d p = refl
-  insert_after (suc i) zero e xs d p = absurd (not-suc-le-zero p)
-  insert_after (suc i) (suc k) e [] d p = refl
-  insert_after (suc i) (suc k) e (x ∷ xs) d p = insert_after i k e xs d (le_of_suc-le-suc p)
 
   pub take_insert : (i k : ℕ) (e : A) (xs : List A) → i ≤ k → k ≤ length xs → take (suc k) (insert i e xs) ≡ insert i e (take k xs)
   unfolding insert
@@ -170,55 +130,10 @@ pub record Kept {A : Type 0} (P : A → Type 0) (b : A) (cap len : ℕ) (ps : Li
   pub rest : drop len ps ≡ replicate (cap - len) b
   pub each : All P ps
 
--- the invariant of a loop that closes the gap at i: it stands at j, and l is the places now. A record, so that the laws find their arguments in its type
-pub record Closing {A : Type 0} (ps : List A) (i last j : ℕ) (l : List A) : Type 0 where
-  pub from : i ≤ j
-  pub upto : j ≤ last
-  pub room : last < length ps
-  pub now : l ≡ blend j (erase i ps) ps
-
-pub closing_start : {A : Type 0} {P : A → Type 0} {b : A} {cap len i : ℕ} {ps : List A} → Kept P b cap len ps → i < len → Closing ps i (len - 1) i ps
-closing_start {i = i} {ps = ps} k p = record { from = omega arith; upto = omega arith; room = omega arith; now = erase_start i ps (omega arith) }
-
-pub closing_turn : {A : Type 0} {ps : List A} {i last j : ℕ} {l : List A} (d : A) → Closing ps i last j l → j < last → Closing ps i last (j + 1) (set l j (get_or l (j + 1) d))
-closing_turn {ps = ps} {i} {last} {j} {l} d a p =
-    let h : j < length (erase i ps) = rw (length_erase i ps (omega arith)) (omega arith) in
-    record {
-      from = omega arith;
-      upto = omega arith;
-      room = a.room;
-      now = rw (a.now, add-one, blend_old j (suc j) (erase i ps) ps d (omega arith) (omega arith) (omega arith), ← erase_after i j ps d a.from) (blend_more j (erase i ps) ps d h (omega arith));
-    }
-
--- the same of a loop that opens a gap at i for e and carries the element that goes into the next place: h
-pub record Opening {A : Type 0} (ps : List A) (i : ℕ) (e d : A) (n j : ℕ) (l : List A) (h : A) : Type 0 where
-  pub from : i ≤ j
-  pub upto : j ≤ n
-  pub room : n < length ps
-  pub now : l ≡ blend j (insert i e ps) ps
-  pub holds : h ≡ get_or (insert i e ps) j d
-
-pub opening_start : {A : Type 0} {P : A → Type 0} {b : A} {cap n i : ℕ} {ps : List A} (e d : A) → Kept P b cap n ps → i ≤ n → n < cap → Opening ps i e d n i ps e
-opening_start {i = i} {ps = ps} e d k p q =
-    record { from = omega arith; upto = p; room = omega arith; now = insert_start i e ps (omega arith); holds = sym (insert_at i e ps d (omega arith)) }
-
 pub get_d_any : {A : Type 0} (xs : List A) (i : ℕ) (d d' : A) → i < length xs → get_or xs i d ≡ get_or xs i d'
 get_d_any [] i d d' p = absurd (not-suc-le-zero p)
 get_d_any (x ∷ xs) zero d d' p = refl
 get_d_any (x ∷ xs) (suc i) d d' p = get_d_any xs i d d' (le_of_suc-le-suc p)
-
-pub opening_turn : {A : Type 0} {ps : List A} {i : ℕ} {e d : A} {n j : ℕ} {l : List A} {h : A} (d' : A) → Opening ps i e d n j l h → j < n → Opening ps i e d n (j + 1) (set l j h) (get_or l j d')
-opening_turn {ps = ps} {i} {e} {d} {n} {j} d' a p =
-    let s : length (insert i e ps) ≡ length ps + 1 = length_insert i e ps (omega arith) in
-    record {
-      from = omega arith;
-      upto = omega arith;
-      room = a.room;
-      now = rw (a.now, a.holds, add-one) (blend_more j (insert i e ps) ps d (omega arith) (omega arith));
-      holds =
-          rw (a.now, add-one, insert_after i j e ps d a.from)
-          (blend_old j j (insert i e ps) ps d' (omega arith) (omega arith) (omega arith) ∙ get_d_any ps j d' d (omega arith));
-    }
 
 pub map_take : {A B : Type 0} (f : A → B) (n : ℕ) (xs : List A) → map f (take n xs) ≡ take n (map f xs)
 map_take f zero xs = refl
@@ -258,14 +173,6 @@ module _ {A B : Type 0} (f : A → B) {P : A → Type 0} {b : A} {cap : ℕ} {ps
         rw (take-set-le k (blend k (erase i ps) ps) k b (omega arith), take_blend k (erase i ps) ps (omega arith), take_erase i k ps h (omega arith)) (map_erase f i (take (suc k) ps)),
       )
 
-  pub removed : {len i j : ℕ} {l : List A} {r : A} → Kept P b cap len ps → Closing ps i (len - 1) j l → i < len → len - 1 ≤ j → P b → r ≡ b
-      → Kept P b cap (len - 1) (set l (len - 1) r) × (map f (take (len - 1) (set l (len - 1) r)) ≡ erase i (map f (take len ps)))
-  removed {len = zero} kept a h hj pb er = absurd (not-suc-le-zero h)
-  removed {len = suc k} {i} {j} {l} {r} kept a h hj pb er =
-      let e : suc k - 1 ≡ k = omega arith in
-      let ej : j ≡ k = omega arith in
-      rw (a.now, er, ej, e) (gone k kept i (omega arith) pb)
-
 pub rest_more : {A : Type 0} (k n : ℕ) (ps : List A) (b : A) → drop k ps ≡ replicate n b → 0 < n → drop (k + 1) ps ≡ replicate (n - 1) b
 rest_more k zero ps b e p = absurd (not-suc-le-zero p)
 rest_more k (suc n) ps b e p =
@@ -286,24 +193,6 @@ module _ {A B : Type 0} (f : A → B) {P : A → Type 0} {b : A} {cap : ℕ} {ps
           each = all_set P ps len e kept.each pe;
         },
         rw (add-one, take-suc-set ps len e (omega arith), map-append),
-      )
-
-  pub inserted : {len i j : ℕ} {l : List A} {e h d : A} → Kept P b cap len ps → Opening ps i e d len j l h → len ≤ j → len < cap → P e
-      → Kept P b cap (len + 1) (set l len h) × (map f (take (len + 1) (set l len h)) ≡ insert i (f e) (map f (take len ps)))
-  inserted {len} {i} {j} {l} {e} {h} {d} kept a hj q pe =
-      let s : length ps ≡ cap = kept.size in
-      let n : length (insert i e ps) ≡ length ps + 1 = length_insert i e ps (omega arith) in
-      let c : cap - (len + 1) ≡ (cap - len) - 1 = omega arith in
-      let ej : j ≡ len = omega arith in
-      let w : set l len h ≡ blend (len + 1) (insert i e ps) ps =
-      rw (a.now, a.holds, ej, add-one) (blend_more len (insert i e ps) ps d (omega arith) (omega arith)) in (
-        record {
-          small = omega arith;
-          size = rw w (length_blend (len + 1) (insert i e ps) ps (omega arith) (omega arith) ∙ s);
-          rest = rw (w, drop_blend (len + 1) (insert i e ps) ps (omega arith), c) (rest_more len (cap - len) ps b kept.rest (omega arith));
-          each = rw w (all_blend P (len + 1) (insert i e ps) ps (all_insert P i e ps kept.each pe) kept.each);
-        },
-        rw (w, take_blend (len + 1) (insert i e ps) ps (omega arith), add-one, take_insert i len e ps (omega arith) (omega arith)) (map_insert f i e (take len ps)),
       )
 
 pub map_set : {A B : Type 0} (f : A → B) (xs : List A) (i : ℕ) (v : A) → map f (set xs i v) ≡ set (map f xs) i (f v)
@@ -339,5 +228,3 @@ module _ {A B : Type 0} (f : A → B) {P : A → Type 0} {b : A} {cap : ℕ} {ps
 
   pub fit_at : {len : ℕ} (i : ℕ) (d : A) → Kept P b cap len ps → i < len → P (get_or ps i d)
   fit_at i d kept h = all_at P ps i d kept.each (omega arith)
-
-pub ruleset shifting = (rules, closing_start, closing_turn, removed, opening_start, opening_turn, inserted, pushed)

@@ -1,6 +1,6 @@
 -- A map in a region: cap chunks of width w, and then the count. What removal, insertion, push and a change of bytes do to what it shows.
 use Prim.Native.Nat.{ℕ, zero, suc, ◌+◌, ◌-◌, ◌*◌, ◌≤◌, ◌<◌}
-use Rattle.std.specs.Prelude.{◌≡◌, replicate, Bool}
+use Rattle.std.specs.Prelude.{◌≡◌, replicate, Bool, Some}
 use Rattle.std.proofs.Math.Path.{refl, sym, ap}
 use Rattle.std.proofs.Common.{ap₂, ◌∙◌, not-suc-le-zero, add-mul, rules, drop-cons, length-drop, length-take, drop_of_length-le, take-append-drop}
 use mathlib.Core.List.{List, [], ◌∷◌, ◌++◌, map, append_assoc}
@@ -15,7 +15,6 @@ use Rattle.rules.specs.Base.{All}
 use Rattle.lib_laws.specs.Buffer.{kept_same}
 use Rattle.lib_laws.specs.Splice.{splice, length_splice, Wrote}
 use Rattle.lib_laws.specs.Scan.{scan, kept_within}
-use Rattle.std.proofs.Math.Option.{some}
 use Rattle.lib_laws.specs.Part.{get_d_past, get_d_here}
 use Rattle.lib_laws.specs.Chunk.{chunks, chunk_at, length_chunks, chunk_size, chunks_splice, chunks_run, chunks_part, chunks_whole, chunks_set, chunks_zeros, chunks_joined, chunks_size, joined}
 
@@ -276,7 +275,7 @@ module _ {B : Type 0} (f : List ℕ → B) {P : List ℕ → Type 0} {w cap : �
   pub entry_fits : (i : ℕ) → i < get_or s (cap * w) 0 → P (take w (drop (i * w) s))
   entry_fits i h = rw (← chunk_at w cap s i [] (omega arith)) (fit_at f i [] r.kept h)
 
-  pub entry_within : (t : B → Bool) (i : ℕ) → scan t 0 (entries f w cap s) ≡ some i → i < get_or s (cap * w) 0
+  pub entry_within : (t : B → Bool) (i : ℕ) → scan t 0 (entries f w cap s) ≡ Some i → i < get_or s (cap * w) 0
   entry_within t i e = kept_within t f r.kept e
 
   pub entries_count : length (entries f w cap s) ≡ get_or s (cap * w) 0

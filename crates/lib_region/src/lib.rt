@@ -13,10 +13,8 @@ pub fn move_down(s: &mut [u8], from: usize, to: usize, n: usize)
     requires n_in_bounds { from + n ≤ length s.old }
     ensures { s.new ≡ splice s.old to (take n (drop from s.old)) }
 {
-    let mut i = 0;
-    while i < n {
+    for i in 0..n {
         s[to + i] = s[from + i];
-        i += 1;
     }
 }
 
@@ -26,9 +24,7 @@ pub fn move_up(s: &mut [u8], from: usize, to: usize, n: usize)
     requires n_in_bounds { to + n ≤ length s.old }
     ensures { s.new ≡ splice s.old to (take n (drop from s.old)) }
 {
-    let mut i = n;
-    while 0 < i {
-        i -= 1;
+    for i in (0..n).rev() {
         s[to + i] = s[from + i];
     }
 }

@@ -1,8 +1,7 @@
 -- What writing a field of a link makes of what is shown; and what is written for a new one.
-use Rattle.std.specs.Prelude.{◌≡◌, Bool, ◌||◌, ℕ, suc, ◌+◌, ◌*◌, ◌<◌, length, take, drop, get_or, set, replicate}
+use Rattle.std.specs.Prelude.{◌≡◌, Bool, ◌||◌, ℕ, suc, ◌+◌, ◌*◌, ◌<◌, length, take, drop, get_or, set, replicate, None, Some}
 use Rattle.std.proofs.Math.Path.{refl, sym, ap}
 use Rattle.std.proofs.Common.{◌∙◌, subst, arith, lit≤, lit<, take_all, set-set, get_or-set_same, length-set, Fits}
-use Rattle.std.proofs.Math.Option.{some, none}
 use mathlib.Core.List.{List, [], ◌∷◌, ◌++◌, map, append_assoc}
 use Rattle.std.specs.Int.{w32, w64}
 use Rattle.rules.specs.Base.{Bytes, one}
@@ -19,7 +18,7 @@ use Rattle.lib_laws.specs.Cell.{Code, flag_shows, flag_code}
 use Rattle.lib_laws.specs.Chunk.{joined}
 use Rattle.lib_laws.specs.Fields.{cuts, cuts_set, cuts_joined, sum}
 use Rattle.lib_laws.specs.Store.{changed_is, entries_count}
-use Rattle.node_addr.specs.View.{view_pair, FitPair}
+use Rattle.node_addr.specs.View.{view_pair}
 use Rattle.node_addr.specs.Place.{pair_cell}
 use Rattle.node_addr.proofs.Cells.{pair_cell_length, pair_cell_fit, pair_cell_shows}
 use Rattle.node_addr.specs.declared.Pair as pair
@@ -38,7 +37,7 @@ dir_code_lem Inbound = record { size = refl; low = lit< tt }
 dir_code_lem Outbound = record { size = refl; low = lit< tt }
 
 -- ---- a link found, or not
-module _ (n : ℕ) (xs : List LinkRec) {i : ℕ} (e : scan (numbered n) 0 xs ≡ some i) where
+module _ (n : ℕ) (xs : List LinkRec) {i : ℕ} (e : scan (numbered n) 0 xs ≡ Some i) where
   pub hold_done : (h : Holder) {ys : List LinkRec} → ys ≡ set xs i (held_by h (get_or xs i no_link)) → ys ≡ hold n h xs
   unfolding hold
   hold_done h q = q ∙ sym (alter_at (numbered n) xs i e (held_by h) no_link)
@@ -54,7 +53,7 @@ module _ (n : ℕ) (xs : List LinkRec) {i : ℕ} (e : scan (numbered n) 0 xs ≡
   pub drop_done : {ys : List LinkRec} → ys ≡ erase i xs → ys ≡ retired n xs
   drop_done q = q ∙ sym (without_at (numbered n) xs i e)
 
-module _ (n : ℕ) (xs : List LinkRec) (e : scan (numbered n) 0 xs ≡ none) where
+module _ (n : ℕ) (xs : List LinkRec) (e : scan (numbered n) 0 xs ≡ None) where
   pub hold_none : (h : Holder) → xs ≡ hold n h xs
   unfolding hold
   hold_none h = sym (alter_nowhere (numbered n) xs e (held_by h))
@@ -117,12 +116,11 @@ module _ (b : Bool) (c : Bytes) (z : length c ≡ link_width) where
   released_put : link_of (splice c at_released (one b ∷ [])) ≡ with_released b (link_of c)
   released_put = ap link_from (released_cuts c (one b ∷ []) z refl) ∙ rw (flag_shows b)
 
-pub marked_is : {s l : Bytes} {i q k : ℕ} (p : Pair) {x y b : Bool} → Wrote s (i * link_width + at_released) 1 (k ∷ []) l q → FitLinks s → i < link_count s
-    → k ≡ one b → b ≡ (x || y) → x ≡ (get_or (view_links s) i no_link).released → y ≡ same_pair p (get_or (view_links s) i no_link).setup
+pub marked_is : {s l : Bytes} {i q : ℕ} (p : Pair) {b : Bool} → Wrote s (i * link_width + at_released) 1 (one b ∷ []) l q → FitLinks s → i < link_count s
+    → b ≡ ((get_or (view_links s) i no_link).released || same_pair p (get_or (view_links s) i no_link).setup)
     → FitLinks l × (view_links l ≡ set (view_links s) i (marked_at p (get_or (view_links s) i no_link)))
-marked_is {s} {l} {i} {q} {k} p {x} {y} {b} w f h ek eb ex ey =
-    let m : b ≡ ((get_or (view_links s) i no_link).released || same_pair p (get_or (view_links s) i no_link).setup) = rw (← ex, ← ey) eb in
-    let g = changed_is link_of (with_released b) i at_released no_link (subst (λ (v : ℕ). Wrote s (i * link_width + at_released) 1 (v ∷ []) l q) ek w) f h (lit≤ tt) (released_keeps b) (released_put b) in
+marked_is {s} {l} {i} p {b} w f h m =
+    let g = changed_is link_of (with_released b) i at_released no_link w f h (lit≤ tt) (released_keeps b) (released_put b) in
     (g.0, g.1 ∙ ap (λ (d : Bool). set (view_links s) i (with_released d (get_or (view_links s) i no_link))) m)
 
 -- the paths
@@ -159,21 +157,21 @@ new_fields n p k = digits 8 n ∷ pair_cell p ∷ (k ∷ []) ∷ (1 ∷ replicat
 abbrev pub new_bytes : ℕ → pair.Pair → ℕ → Bytes
 new_bytes n p k = digits 8 n ++ pair_cell p ++ (k ∷ []) ++ (1 ∷ []) ++ replicate opened_blank 0
 
-module _ (n : ℕ) {p : pair.Pair} (d : Dir) (f : FitPair p) where
+module _ (n : ℕ) (p : pair.Pair) (d : Dir) where
   new_joined : new_bytes n p (dir_code d) ≡ joined (new_fields n p (dir_code d))
   unfolding joined
   new_joined = simp append_assoc
 
   new_cuts : cuts 0 0 link_ws (new_bytes n p (dir_code d)) ≡ new_fields n p (dir_code d)
   new_cuts =
-      let ws : map length (new_fields n p (dir_code d)) ≡ link_ws = rw (length_digits 8 n, pair_cell_length f) in
+      let ws : map length (new_fields n p (dir_code d)) ≡ link_ws = rw (length_digits 8 n, pair_cell_length p) in
       rw new_joined (ap (λ (ws : List ℕ). cuts 0 0 ws (joined (new_fields n p (dir_code d)))) (sym ws) ∙ cuts_joined (new_fields n p (dir_code d)))
 
   pub opened_fit : FitLink (new_bytes n p (dir_code d))
   opened_fit =
       subst FitFields (sym new_cuts)
       (record {
-        setup = pair_cell_fit f;
+        setup = pair_cell_fit p;
         dir = dir_code_lem d;
         holder = record { flag = record { size = refl; low = lit< tt }; blank = λ q. refl };
         released = record { size = refl; low = lit< tt };
@@ -182,4 +180,4 @@ module _ (n : ℕ) {p : pair.Pair} (d : Dir) (f : FitPair p) where
 
   pub opened_shows : Fits w64 n → Fits w32 p.transport.0 → link_of (new_bytes n p (dir_code d)) ≡ opened n (view_pair p) d
   unfolding opened
-  opened_shows a b = ap link_from new_cuts ∙ rw (more_digits 8 n a.fits, pair_cell_shows f b, dir_shows d)
+  opened_shows a b = ap link_from new_cuts ∙ rw (more_digits 8 n a.fits, pair_cell_shows p b, dir_shows d)

@@ -1,5 +1,5 @@
 -- Canonical regions of bytes that show the same links are the same.
-use Rattle.std.specs.Prelude.{◌≡◌, refl, Bool, true, false, ◌++◌, ℕ, zero, suc, ◌+◌, ◌<◌, length, take, drop, if◌then◌else◌}
+use Rattle.std.specs.Prelude.{◌≡◌, refl, Bool, true, false, ◌++◌, ℕ, zero, suc, ◌<◌, length, take, drop, if◌then◌else◌}
 use Rattle.std.proofs.Common.{sym, ap, ◌∙◌, arith, take_all, length-drop, take-append-drop}
 use Rattle.rules.specs.Base.{Bytes, All}
 use Rattle.rules.specs.Bounds.{IsByte}

@@ -1,14 +1,14 @@
 // Link records changed where they stand.
-ghost use Rattle.std.specs.Prelude.{◌≡◌, false, ◌||◌, [], ◌∷◌, ◌++◌, ◌<◌, get_or, set};
-ghost use Rattle.rules.specs.Base.{one};
+ghost use Rattle.std.specs.Prelude.{◌≡◌, false, [], ◌∷◌, ◌++◌, ◌<◌, get_or, set};
 ghost use Rattle.rules.specs.Data.{APeer};
 ghost use Rattle.rules.specs.Links.{opened, held_by, hold, with_path, path, retired, without_path};
 ghost use Rattle.lib_laws.specs.Shift.{erase};
-ghost use Rattle.node_addr.specs.View.{FitPair, view_pair};
-ghost use Rattle.links_entry.specs.View.{FitLinks, view_links, link_count, no_link, dir_code, view_dir, view_proven, full, crowding, marked_at, cut_at};
+ghost use Rattle.node_addr.specs.View.{view_pair};
+ghost use Rattle.links_entry.specs.View.{FitLinks, view_links, link_count, no_link, view_dir, view_proven, full, crowding, marked_at, cut_at};
 
+use lib_bytes::flag::put_flag;
 use lib_bytes::layout::U64;
-use lib_bytes::write::{clear, put_16, put_be, put_byte};
+use lib_bytes::write::{clear, put_be, put_byte};
 use lib_region::remove_chunk;
 use links_entry::layout::{
     HOLDER, LINK_CAP, LINK_COUNT, LINK_WIDTH, OPENED_BLANK, PATHS, PATHS_LEN, RELEASED,
@@ -16,31 +16,20 @@ use links_entry::layout::{
 use links_entry::paths::{drop_paths, put_path};
 use links_entry::read::{find_link, released_at, setup_is};
 use links_entry::record::{Dir, Proven};
-use node_addr::place::put_pair;
-use node_addr::{Found, LinkNo, NodeAddr, Pair};
-
-fn dir_code(d: Dir) -> u8
-    ensures { result ≡ dir_code (view_dir d) }
-{
-    match d {
-        Dir::Inbound => 0,
-        Dir::Outbound => 1,
-    }
-}
+use node_addr::place::{put_fixed, put_pair};
+use node_addr::{LinkNo, NodeAddr, Pair};
 
 // A link set up at the pair; a leg holds it.
 pub fn open_link(s: &mut [u8], n: LinkNo, p: Pair, d: Dir)
     requires fit_links { FitLinks s.old }
     requires s_bound { link_count s.old < 32 }
-    requires fit_pair { FitPair p }
     ensures fit_links_2 { FitLinks s.new }
     ensures s_after { view_links s.new ≡ view_links s.old ++ (opened n.0 (view_pair p) (view_dir d) ∷ []) }
 {
     let len = s[LINK_COUNT] as usize;
-    let code = dir_code(d);
     let a = put_be(s, len * LINK_WIDTH, n.0, U64);
     let b = put_pair(s, a, p);
-    let c = put_byte(s, b, code);
+    let c = put_byte(s, b, d as u8);
     let e = put_byte(s, c, 1);
     clear(s, e, OPENED_BLANK);
     s[LINK_COUNT] = (len + 1) as u8;
@@ -53,9 +42,8 @@ fn hold_at(s: &mut [u8], i: usize, peer: NodeAddr)
     ensures fit_links_2 { FitLinks s.new }
     ensures s_after { view_links s.new ≡ set (view_links s.old) i (held_by (APeer peer.0) (get_or (view_links s.old) i no_link)) }
 {
-    let bytes = peer.0;
     let a = put_byte(s, i * LINK_WIDTH + HOLDER, 0);
-    put_16(s, a, bytes);
+    put_fixed(s, a, peer);
 }
 
 // Link n is now held by the peer.
@@ -64,11 +52,8 @@ pub fn hold_link(s: &mut [u8], n: LinkNo, peer: NodeAddr)
     ensures fit_links { FitLinks s.new }
     ensures s_after { view_links s.new ≡ hold n.0 (APeer peer.0) (view_links s.old) }
 {
-    match find_link(s, n) {
-        Found::At(i) => {
-            hold_at(s, i, peer);
-        }
-        Found::Nothing => {}
+    if let Some(i) = find_link(s, n) {
+        hold_at(s, i, peer);
     }
 }
 
@@ -76,7 +61,6 @@ pub fn hold_link(s: &mut [u8], n: LinkNo, peer: NodeAddr)
 fn path_at(s: &mut [u8], i: usize, p: Pair, v: Proven)
     requires fit_links { FitLinks s.old }
     requires i_bound { i < link_count s.old }
-    requires fit_pair { FitPair p }
     requires no_link_value { full (view_pair p) (get_or (view_links s.old) i no_link).paths ≡ false }
     ensures fit_links_2 { FitLinks s.new }
     ensures s_after { view_links s.new ≡ set (view_links s.old) i (with_path (view_pair p) (view_proven v) (get_or (view_links s.old) i no_link)) }
@@ -89,16 +73,12 @@ fn path_at(s: &mut [u8], i: usize, p: Pair, v: Proven)
 // Link n has a path at the pair in state v: changed, or new.
 pub fn set_path(s: &mut [u8], n: LinkNo, p: Pair, v: Proven)
     requires fit_links { FitLinks s.old }
-    requires fit_pair { FitPair p }
     requires s_value { crowding n.0 (view_pair p) (view_links s.old) ≡ false }
     ensures fit_links_2 { FitLinks s.new }
     ensures s_after { view_links s.new ≡ path n.0 (view_pair p) (view_proven v) (view_links s.old) }
 {
-    match find_link(s, n) {
-        Found::At(i) => {
-            path_at(s, i, p, v);
-        }
-        Found::Nothing => {}
+    if let Some(i) = find_link(s, n) {
+        path_at(s, i, p, v);
     }
 }
 
@@ -118,46 +98,26 @@ pub fn drop_link(s: &mut [u8], n: LinkNo)
     ensures fit_links { FitLinks s.new }
     ensures s_after { view_links s.new ≡ retired n.0 (view_links s.old) }
 {
-    match find_link(s, n) {
-        Found::At(i) => {
-            remove_link(s, i);
-        }
-        Found::Nothing => {}
+    if let Some(i) = find_link(s, n) {
+        remove_link(s, i);
     }
-}
-
-fn one_if(b: bool) -> u8
-    ensures { result ≡ one b }
-{
-    if b { 1 } else { 0 }
-}
-
-fn either(a: bool, b: bool) -> bool
-    ensures { result ≡ (a || b) }
-{
-    a || b
 }
 
 // The setup of the link at a place is released where it is the pair.
 fn mark_at(s: &mut [u8], i: usize, p: Pair)
     requires fit_links { FitLinks s.old }
     requires i_bound { i < link_count s.old }
-    requires fit_pair { FitPair p }
     ensures fit_links_2 { FitLinks s.new }
     ensures s_after { view_links s.new ≡ set (view_links s.old) i (marked_at (view_pair p) (get_or (view_links s.old) i no_link)) }
 {
-    let was = released_at(s, i);
-    let is = setup_is(s, i, p);
-    let b = either(was, is);
-    let code = one_if(b);
-    put_byte(s, i * LINK_WIDTH + RELEASED, code);
+    let gone = released_at(s, i) || setup_is(s, i, p);
+    put_flag(s, i * LINK_WIDTH + RELEASED, gone);
 }
 
 // The paths of the link at a place that are at the pair go.
 fn cut_at(s: &mut [u8], i: usize, p: Pair)
     requires fit_links { FitLinks s.old }
     requires i_bound { i < link_count s.old }
-    requires fit_pair { FitPair p }
     ensures fit_links_2 { FitLinks s.new }
     ensures s_after { view_links s.new ≡ set (view_links s.old) i (cut_at (view_pair p) (get_or (view_links s.old) i no_link)) }
 {
@@ -170,7 +130,6 @@ fn cut_at(s: &mut [u8], i: usize, p: Pair)
 pub(crate) fn release_at(s: &mut [u8], i: usize, p: Pair)
     requires fit_links { FitLinks s.old }
     requires i_bound { i < link_count s.old }
-    requires fit_pair { FitPair p }
     ensures fit_links_2 { FitLinks s.new }
     ensures s_after { view_links s.new ≡ set (view_links s.old) i (without_path (view_pair p) (get_or (view_links s.old) i no_link)) }
 {

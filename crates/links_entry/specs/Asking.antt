@@ -1,12 +1,11 @@
 -- Whether some element of a list passes a test, and those that pass, by loops over the places of a map.
-use Rattle.std.specs.Prelude.{◌≡◌, refl, Bool, true, false, not, ◌&&◌, ◌||◌, List, [], ◌∷◌, ◌++◌, map, ℕ, suc, ◌+◌, ◌-◌, ◌≤◌, ◌<◌, set, replicate}
+use Rattle.std.specs.Prelude.{◌≡◌, refl, Bool, true, false, not, ◌&&◌, ◌||◌, List, [], ◌∷◌, ◌++◌, map, ℕ, suc, ◌+◌, ◌-◌, ◌≤◌, ◌<◌}
 use Rattle.std.proofs.Common.{sym, ◌∙◌, append_assoc, append-nil, add-one, arith, rules, drop-cons, take-suc, take_all, drop_of_length-le, length-append}
-use Rattle.std.proofs.Math.Nat.{sub-zero}
 use Rattle.std.proofs.Math.Seq.{take_at, drop_at, length-take-le}
 use Rattle.std.proofs.Math.ListN.{length, take, drop, get_or}
-use Rattle.std.proofs.lemmas.List.{length-replicate}
+use Rattle.std.proofs.lemmas.List.{length-map, map-append}
 use Rattle.rules.specs.Base.{any, keep}
-use Rattle.lib_laws.specs.Shift.{Kept, erase, length_erase, pushed, all_replicate}
+use Rattle.lib_laws.specs.Shift.{Kept, erase, length_erase}
 use Rattle.lib_laws.specs.Scan.{shows_cons, length_shows}
 
 -- the loop stands at i: the answer o is the answer of what is left
@@ -44,6 +43,24 @@ and_true false = refl
 pub and_false : (b : Bool) → (b && false) ≡ false
 and_false true = refl
 and_false false = refl
+
+pub and_then : {a b x y : Bool} → a ≡ x → a ≡ true → b ≡ y → b ≡ (x && y)
+and_then e t q = q ∙ sym (rw (← e, t))
+
+pub and_else : {a x : Bool} (y : Bool) → a ≡ x → a ≡ false → a ≡ (x && y)
+and_else y e t = t ∙ sym (rw (← e, t))
+
+pub or_then : {a x : Bool} (y : Bool) → a ≡ x → a ≡ true → a ≡ (x || y)
+or_then y e t = t ∙ sym (rw (← e, t))
+
+pub or_else : {a b x y : Bool} → a ≡ x → a ≡ false → b ≡ y → b ≡ (x || y)
+or_else e t q = q ∙ sym (rw (← e, t))
+
+pub or_last : {a y : Bool} (x : Bool) → a ≡ y → a ≡ true → a ≡ (x || y)
+or_last x e t = t ∙ sym (rw (← e, t) (or_true x))
+
+pub or_first : {a b x y : Bool} → a ≡ y → a ≡ false → b ≡ x → b ≡ (x || y)
+or_first {x = x} e t q = q ∙ sym (rw (← e, t) (or_false x))
 
 pub not_true : (b : Bool) → not b ≡ true → b ≡ false
 not_true true e = cc
@@ -101,36 +118,23 @@ sifted_drop {xs = xs} {j = j} d p q e =
 
 pub ruleset asking = (rules, ask_start, ask_hit, ask_skip, ask_end)
 
--- ---- a loop that loads n values, of which the list xs is shown
-pub record Loading {A B : Type 0} (f : A → B) (P : A → Type 0) (b : A) (cap n : ℕ) (xs : List B) (j : ℕ) (l : List A) : Type 0 where
-  pub within : j ≤ n
-  pub count : length xs ≡ n
-  pub space : n ≤ cap
-  pub kept : Kept P b cap j l
-  pub shows : map f (take j l) ≡ take j xs
+-- ---- a loop that loads the values of which the list xs is shown
+pub record Loading {A B : Type 0} (f : A → B) (xs : List B) (j : ℕ) (l : List A) : Type 0 where
+  pub within : j ≤ length xs
+  pub shows : map f l ≡ take j xs
 
-module _ {A B : Type 0} {f : A → B} {P : A → Type 0} {b : A} {cap n : ℕ} {xs : List B} {j : ℕ} {l : List A} (a : Loading f P b cap n xs j l) where
-  pub loading_turn : (d : B) {v : A} → j < n → P v → f v ≡ get_or xs j d → Loading f P b cap n xs (j + 1) (set l j v)
-  loading_turn d {v} p q e =
-      let r = pushed f j v a.kept q (omega arith) in
-      record {
-        within = omega arith;
-        count = a.count;
-        space = a.space;
-        kept = r.0;
-        shows = r.1 ∙ rw (a.shows, e, add-one) (sym (take-suc xs j d (omega arith)));
-      }
+pub loading_start : {A B : Type 0} (f : A → B) (xs : List B) → Loading f xs 0 []
+loading_start f xs = record { within = omega arith; shows = refl }
 
-  pub loading_end : n ≤ j → Kept P b cap n l × (map f (take n l) ≡ xs)
-  loading_end p =
-      let z : j ≡ n = omega arith in
-      (rw z at a.kept, (rw z at a.shows) ∙ take_all n xs (omega arith))
+module _ {A B : Type 0} {f : A → B} {xs : List B} {j : ℕ} {l : List A} (a : Loading f xs j l) where
+  pub loading_count : length l ≡ j
+  loading_count = sym (length-map l f) ∙ rw a.shows (length-take-le j xs a.within)
 
-pub loading_start : {A B : Type 0} (f : A → B) {P : A → Type 0} (b : A) (cap n : ℕ) (xs : List B) → length xs ≡ n → n ≤ cap → P b → Loading f P b cap n xs 0 (replicate cap b)
-loading_start f {P} b cap n xs e h p = record {
-  within = omega arith;
-  count = e;
-  space = h;
-  kept = record { small = omega arith; size = length-replicate cap b; rest = rw sub-zero; each = all_replicate P cap b p };
-  shows = refl;
-}
+  pub loading_turn : (d : B) {v : A} {m : List A} → j < length xs → f v ≡ get_or xs j d → m ≡ l ++ (v ∷ []) → Loading f xs (j + 1) m
+  loading_turn d {v} p e q = record {
+    within = omega arith;
+    shows = rw (q, map-append f l (v ∷ []), a.shows, e, add-one) (sym (take-suc xs j d p));
+  }
+
+  pub loading_end : length xs ≤ j → map f l ≡ xs
+  loading_end p = a.shows ∙ take_all j xs p

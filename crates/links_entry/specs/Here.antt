@@ -1,12 +1,12 @@
 -- What stands at a place of the links, and of a link's paths, read where it stands.
-use Rattle.std.specs.Prelude.{◌≡◌, refl, Bool, true, false, ◌&&◌, ◌||◌, ℕ, zero, suc, ◌+◌, ◌-◌, ◌*◌, ◌≤◌, ◌<◌, eqb, length, take, drop, get_or, if◌then◌else◌}
+use Rattle.std.specs.Prelude.{◌≡◌, refl, Bool, true, false, ℕ, zero, suc, ◌+◌, ◌-◌, ◌*◌, ◌≤◌, ◌<◌, eqb, length, take, drop, get_or, if◌then◌else◌}
 use Rattle.std.proofs.Math.Path.{sym, ap}
-use Rattle.std.proofs.Common.{◌∙◌, subst, add-zero, arith, rules, eq-eqb, ne_eqb, lit≤, lit<, get_or-take, get_or-drop, take-take}
+use Rattle.std.proofs.Common.{◌∙◌, subst, add-zero, arith, rules, eq-eqb, ne_eqb, lit≤, lit<, get_or-take, get_or-drop, take-take, drop-drop}
 use Rattle.std.proofs.Math.Bool.{not}
-use mathlib.Core.List.{List, [], ◌∷◌, map}
-use Rattle.rules.specs.Base.{Bytes, empty, any}
-use Rattle.rules.specs.Data.{Pair, same_pair, Inbound, Outbound, ALeg, APeer, Proven, PathRec, LinkRec}
-use Rattle.rules.specs.Links.{counts, is_leg, path_at, proven_at, uses, indexed}
+use mathlib.Core.List.{List, [], ◌∷◌}
+use Rattle.rules.specs.Base.{Bytes, empty}
+use Rattle.rules.specs.Data.{Pair, same_pair, Inbound, Outbound, ALeg, APeer, Proven, Live, Acked, Probing, PathRec, LinkRec}
+use Rattle.rules.specs.Links.{counts, is_leg, path_at}
 use Rattle.lib_laws.specs.Shift.{erase, shown, fit_at}
 use Rattle.lib_laws.specs.Cell.{num, byte_of, flag_of}
 use Rattle.lib_laws.specs.Chunk.{chunks}
@@ -14,9 +14,9 @@ use Rattle.lib_laws.specs.Fields.{cuts, cuts_at, field_at, sum}
 use Rattle.lib_laws.specs.Store.{entries_count}
 use Rattle.node_addr.specs.Place.{pair_of, PairCell}
 use Rattle.node_addr.specs.Layout.{pair_width}
-use Rattle.links_entry.specs.Layout.{link_ws, at_dir, at_holder, at_link_path_count, at_path_count, at_path_state, at_paths, at_released, at_setup, link_cap, link_width, path_cap, path_width, paths_len}
+use Rattle.links_entry.specs.Layout.{link_ws, at_dir, at_holder, at_holder_peer, at_link_path_count, at_path_count, at_path_state, at_paths, at_released, at_setup, link_cap, link_width, path_cap, path_width, paths_len}
 use Rattle.links_entry.specs.View.{state_of, path_of, FitPath, view_paths, FitPaths, path_count, dir_of, holder_of, link_from, link_of, FitFields, view_links, FitLinks, link_count, no_link, no_path, outward}
-use Rattle.links_entry.specs.Asking.{or_true, or_false, and_true, and_false, not_true, not_false, Sifted, sifted_drop, sifted_pass}
+use Rattle.links_entry.specs.Asking.{Sifted, sifted_drop, sifted_pass}
 
 module _ {s : Bytes} {i : ℕ} (f : FitLinks s) (h : i < link_count s) where
   fields_at : cuts (i * link_width) 0 link_ws s ≡ cuts 0 0 link_ws (get_or (chunks link_width link_cap s) i [])
@@ -105,11 +105,9 @@ leg_of c = go (flag_of (take 1 c))
     go true = refl
     go false = refl
 
--- a map's first places are none where the count is 0
-shows_none : {A B : Type 0} (f : A → B) (n : ℕ) (ps : List A) → n ≤ length ps → empty (map f (take n ps)) ≡ eqb n 0
-shows_none f zero ps h = refl
-shows_none f (suc n) [] h = absurd (omega arith)
-shows_none f (suc n) (x ∷ ps) h = sym (ne_eqb (suc n) 0 (λ e. omega arith))
+empty_is : {A : Type 0} (xs : List A) → eqb (length xs) 0 ≡ empty xs
+empty_is [] = refl
+empty_is (x ∷ xs) = ne_eqb (suc (length xs)) 0 (λ e. omega arith)
 
 -- the length of the paths that the code lends
 abbrev pub span : ℕ → ℕ
@@ -117,6 +115,23 @@ span i = i * link_width + at_paths + paths_len - (i * link_width + at_paths)
 
 pub span_is : (i : ℕ) → span i ≡ paths_len
 span_is i = omega arith
+
+-- what holds a link, as the code reads it
+drop_taken : (m n : ℕ) (u : Bytes) → drop 1 (take (suc n) u) ≡ take n (drop 1 u)
+drop_taken m n [] = empty_take n
+  where
+    empty_take : (n : ℕ) → ◌≡◌ {A = Bytes} [] (take n [])
+    empty_take zero = refl
+    empty_take (suc n) = refl
+drop_taken m n (x ∷ u) = refl
+
+holder_loaded : (a : ℕ) (s : Bytes) → holder_of (take 17 (drop (a + at_holder) s)) ≡ (if eqb (get_or s (a + at_holder) 0) 1 then ALeg else APeer (take 16 (drop (a + at_holder_peer) s)))
+holder_loaded a s =
+    let x : take 1 (take 17 (drop (a + at_holder) s)) ≡ take 1 (drop (a + at_holder) s) = take-take 1 17 (drop (a + at_holder) s) (lit≤ tt) in
+    let y : a + at_holder + 1 ≡ a + at_holder_peer = omega arith in
+    let z : take 16 (drop 1 (take 17 (drop (a + at_holder) s))) ≡ take 16 (drop (a + at_holder_peer) s) =
+    ap (λ (u : Bytes). take 16 u) (drop_taken 0 16 (drop (a + at_holder) s)) ∙ take-take 16 16 (drop 1 (drop (a + at_holder) s)) (lit≤ tt) ∙ rw (drop-drop 1 (a + at_holder) s, y) in
+    rw (x, z, byte_here s (a + at_holder))
 
 module _ {s : Bytes} {i : ℕ} (f : FitLinks s) (h : i < link_count s) where
   pub no_is : {b : ℕ} → b ≡ num (take 8 (drop (i * link_width) s)) → b ≡ (get_or (view_links s) i no_link).no
@@ -142,13 +157,14 @@ module _ {s : Bytes} {i : ℕ} (f : FitLinks s) (h : i < link_count s) where
       let z : take 1 (take 17 (drop (i * link_width + at_holder) s)) ≡ take 1 (drop (i * link_width + at_holder) s) = take-take 1 17 (drop (i * link_width + at_holder) s) (lit≤ tt) in
       rw (e, byte_here s (i * link_width + at_holder), ← z) (sym (leg_of (take 17 (drop (i * link_width + at_holder) s))) ∙ ap is_leg (holder_here f h))
 
-  pub count_is : {b : ℕ} → b ≡ get_or s (i * link_width + at_link_path_count) 0 → eqb b 0 ≡ empty (get_or (view_links s) i no_link).paths
-  count_is {b} e =
-      let z : get_or (take paths_len (drop (i * link_width + at_paths) s)) at_path_count 0 ≡ get_or s (i * link_width + at_paths + at_path_count) 0 = byte_in s (i * link_width + at_paths) paths_len at_path_count (lit< tt) in
-      let y : i * link_width + at_paths + at_path_count ≡ i * link_width + at_link_path_count = omega arith in
-      let p : FitPaths (take paths_len (drop (i * link_width + at_paths) s)) = paths_fit f h in
-      rw (e, ← y, ← z)
-      (sym (shows_none path_of (path_count (take paths_len (drop (i * link_width + at_paths) s))) (chunks path_width path_cap (take paths_len (drop (i * link_width + at_paths) s))) (omega (arith, p.kept.small, p.kept.size))) ∙ ap empty (paths_here f h))
+  pub holder_is : {b : ℕ} → b ≡ get_or s (i * link_width + at_holder) 0 → (if eqb b 1 then ALeg else APeer (take 16 (drop (i * link_width + at_holder_peer) s))) ≡ (get_or (view_links s) i no_link).holder
+  holder_is e = rw e (sym (holder_loaded (i * link_width) s)) ∙ holder_here f h
+
+  pub holder_leg : {b : ℕ} → b ≡ get_or s (i * link_width + at_holder) 0 → b ≡ 1 → ALeg ≡ (get_or (view_links s) i no_link).holder
+  holder_leg e z = let q = holder_is e in rw z at q
+
+  pub holder_peer : {b : ℕ} {x : Bytes} → b ≡ get_or s (i * link_width + at_holder) 0 → (b ≡ 1 → ⊥) → x ≡ take 16 (drop (i * link_width + at_holder_peer) s) → APeer x ≡ (get_or (view_links s) i no_link).holder
+  holder_peer {b} e z p = let q = holder_is e in rw p (rw (ne_eqb b 1 z) at q)
 
   -- the paths, lent
   pub paths_lent : FitPaths (take (span i) (drop (i * link_width + at_paths) s))
@@ -182,51 +198,18 @@ module _ {s : Bytes} {i : ℕ} (f : FitLinks s) (h : i < link_count s) where
       (rw (span_is i) at e)
       ∙ ap g (shown path_of j [] no_path (paths_fit f h).kept (subst (λ (n : ℕ). j < n) paths_length l) ∙ ap (λ (ws : List PathRec). get_or ws j no_path) (paths_here f h))
 
--- whether a link's setup is in use
-module _ {s : Bytes} {i : ℕ} (f : FitLinks s) (h : i < link_count s) {b : ℕ} (e : b ≡ get_or s (i * link_width + at_link_path_count) 0) where
-  pub waits_yes : b ≡ 0 → true ≡ (empty (get_or (view_links s) i no_link).paths || is_leg (get_or (view_links s) i no_link).holder)
-  waits_yes z = rw (← count_is f h e, eq-eqb b 0 z)
+-- whether a link has no paths
+pub paths_none : {A : Type 0} (xs : List A) {n : ℕ} → n ≡ length xs → eqb n 0 ≡ empty xs
+paths_none xs e = rw e (empty_is xs)
 
-  pub waits_is : {l : ℕ} → (b ≡ 0 → ⊥) → l ≡ get_or s (i * link_width + at_holder) 0 → eqb l 1 ≡ (empty (get_or (view_links s) i no_link).paths || is_leg (get_or (view_links s) i no_link).holder)
-  waits_is z g = rw (← count_is f h e, ne_eqb b 0 z) (leg_is f h g)
-
-pub ruleset reading = (rules, no_is, setup_cell, setup_shows, setup_same, outbound_is, released_is, waits_yes, waits_is)
-
--- ---- uses and indexed, by what the code asks
-module _ (p : Pair) (r : LinkRec) {b : Bool} (e : b ≡ any (proven_at p) r.paths) where
-  pub uses_path : b ≡ true → b ≡ uses p r
-  unfolding uses
-  uses_path t = t ∙ sym (rw (← e, t) (or_true (same_pair p r.setup && (empty r.paths || is_leg r.holder))))
-
-  pub uses_nothing : {w : Bool} → b ≡ false → w ≡ (empty r.paths || is_leg r.holder) → not w ≡ true → false ≡ uses p r
-  unfolding uses
-  uses_nothing {w} t q n = sym (rw (← e, t, ← q, not_true w n) (rw (and_false (same_pair p r.setup))))
-
-  pub uses_setup : {w x : Bool} → b ≡ false → w ≡ (empty r.paths || is_leg r.holder) → not w ≡ false → x ≡ same_pair p r.setup → x ≡ uses p r
-  unfolding uses
-  uses_setup {w} t q n y = y ∙ sym (rw (← e, t, ← q, not_false w n) (or_false (same_pair p r.setup && true) ∙ and_true (same_pair p r.setup)))
-
-  pub indexed_path : b ≡ true → true ≡ indexed p r
-  unfolding indexed
-  indexed_path t = sym (rw (← e, t) (or_true (same_pair p r.setup && not r.released)))
-
-  pub indexed_nothing : {w : Bool} → b ≡ false → w ≡ r.released → w ≡ true → not w ≡ indexed p r
-  unfolding indexed
-  indexed_nothing {w} t q n = ap not n ∙ sym (rw (← e, t, ← q, n) (rw (and_false (same_pair p r.setup))))
-
-  pub indexed_setup : {w x : Bool} → b ≡ false → w ≡ r.released → w ≡ false → x ≡ same_pair p r.setup → x ≡ indexed p r
-  unfolding indexed
-  indexed_setup {w} t q n y = y ∙ sym (rw (← e, t, ← q, n) (or_false (same_pair p r.setup && true) ∙ and_true (same_pair p r.setup)))
+pub ruleset reading = (rules, no_is, setup_cell, setup_shows, setup_same, outbound_is, released_is)
 
 -- ---- a path's state
-counts_two : (b : ℕ) → b ≡ 2 → counts (state_of b) ≡ false
-counts_two b e = rw e
-
-counts_other : (b : ℕ) → b < 3 → (b ≡ 2 → ⊥) → counts (state_of b) ≡ true
-counts_other zero p d = refl
-counts_other (suc zero) p d = refl
-counts_other (suc (suc zero)) p d = absurd (d refl)
-counts_other (suc (suc (suc b))) p d = absurd (omega arith)
+counts_of : (b : ℕ) → b < 3 → not (eqb b 2) ≡ counts (state_of b)
+counts_of zero p = refl
+counts_of (suc zero) p = refl
+counts_of (suc (suc zero)) p = refl
+counts_of (suc (suc (suc b))) p = absurd (omega arith)
 
 module _ {s : Bytes} {j : ℕ} (f : FitPaths s) (h : j < path_count s) where
   pub path_cell : PairCell (take pair_width (drop (j * path_width) s))
@@ -235,21 +218,26 @@ module _ {s : Bytes} {j : ℕ} (f : FitPaths s) (h : j < path_count s) where
   pub path_same : (x : Pair) {b : Bool} → b ≡ same_pair x (pair_of (take pair_width (drop (j * path_width) s))) → b ≡ path_at x (path_of (get_or (chunks path_width path_cap s) j []))
   path_same x e = e ∙ ap (same_pair x) (pair_here_path f h)
 
-  state_at : {v : ℕ} → v ≡ get_or s (j * path_width + at_path_state) 0 → state_of v ≡ (path_of (get_or (chunks path_width path_cap s) j [])).state
-  state_at {v} e = ap state_of (e ∙ byte_here s (j * path_width + at_path_state)) ∙ state_here f h
+  pub state_is : {v : ℕ} → v ≡ get_or s (j * path_width + at_path_state) 0 → state_of v ≡ (path_of (get_or (chunks path_width path_cap s) j [])).state
+  state_is {v} e = ap state_of (e ∙ byte_here s (j * path_width + at_path_state)) ∙ state_here f h
 
-  pub probing_path : (x : Pair) {v : ℕ} → v ≡ get_or s (j * path_width + at_path_state) 0 → v ≡ 2 → false ≡ proven_at x (path_of (get_or (chunks path_width path_cap s) j []))
-  probing_path x {v} e z = sym (rw (← state_at e, counts_two v z) (and_false (same_pair x (path_of (get_or (chunks path_width path_cap s) j [])).pair)))
+  pub state_live : {v : ℕ} → v ≡ get_or s (j * path_width + at_path_state) 0 → v ≡ 0 → Live ≡ (path_of (get_or (chunks path_width path_cap s) j [])).state
+  state_live {v} e z = let q = state_is e in rw z at q
 
-  pub counting_path : (x : Pair) {v : ℕ} {b : Bool} → v ≡ get_or s (j * path_width + at_path_state) 0 → (v ≡ 2 → ⊥) → b ≡ same_pair x (pair_of (take pair_width (drop (j * path_width) s)))
-      → b ≡ proven_at x (path_of (get_or (chunks path_width path_cap s) j []))
-  counting_path x {v} e d q =
+  pub state_acked : {v : ℕ} → v ≡ get_or s (j * path_width + at_path_state) 0 → v ≡ 1 → Acked ≡ (path_of (get_or (chunks path_width path_cap s) j [])).state
+  state_acked {v} e z = let q = state_is e in rw z at q
+
+  pub state_probing : {v : ℕ} → v ≡ get_or s (j * path_width + at_path_state) 0 → (v ≡ 0 → ⊥) → (v ≡ 1 → ⊥) → Probing ≡ (path_of (get_or (chunks path_width path_cap s) j [])).state
+  state_probing {v} e a b = let q = state_is e in rw (ne_eqb v 0 a, ne_eqb v 1 b) at q
+
+  pub counts_is : {v : ℕ} → v ≡ get_or s (j * path_width + at_path_state) 0 → not (eqb v 2) ≡ counts (path_of (get_or (chunks path_width path_cap s) j [])).state
+  counts_is {v} e =
       let l : v < 3 = rw (e ∙ byte_here s (j * path_width + at_path_state)) (state_low f h) in
-      path_same x q ∙ sym (rw (← state_at e, counts_other v l d) (and_true (same_pair x (path_of (get_or (chunks path_width path_cap s) j [])).pair)))
+      counts_of v l ∙ ap counts (state_is e)
 
-  pub path_loaded : {x : Pair} {v : ℕ} {u : Proven} → x ≡ pair_of (take pair_width (drop (j * path_width) s)) → v ≡ get_or s (j * path_width + at_path_state) 0 → u ≡ state_of v
+  pub pair_loaded : {x : Pair} {u : Proven} → x ≡ pair_of (take pair_width (drop (j * path_width) s)) → u ≡ (path_of (get_or (chunks path_width path_cap s) j [])).state
       → record { pair = x; state = u } ≡ path_of (get_or (chunks path_width path_cap s) j [])
-  path_loaded e g q = rw (e ∙ pair_here_path f h, q ∙ state_at g)
+  pair_loaded e q = rw (e ∙ pair_here_path f h, q)
 
   -- of what is shown
   pub path_shown : path_of (get_or (chunks path_width path_cap s) j []) ≡ get_or (view_paths s) j no_path
@@ -269,4 +257,4 @@ module _ {s : Bytes} {j : ℕ} (f : FitPaths s) (h : j < path_count s) (x : Pair
   pub sift_pass : b ≡ false → Sifted (λ w. not (path_at x w)) (view_paths s) j (view_paths s) (j + 1)
   sift_pass t = sifted_pass no_path place_shown (rw (← same_shown, t))
 
-pub ruleset pathing = (rules, path_cell, path_same, probing_path, counting_path, path_loaded, sift_drop, sift_pass)
+pub ruleset pathing = (rules, path_cell, path_same, state_live, state_acked, state_probing, counts_is, pair_loaded, sift_drop, sift_pass)

@@ -1,18 +1,19 @@
 -- What link records in memory and by value show, and their canonical form.
-use Rattle.std.specs.Prelude.{◌≡◌, Bool, true, false, not, ◌&&◌, ◌||◌, List, [], ◌∷◌, map, ℕ, eqb, leb, length, take, drop, get_or, replicate, if◌then◌else◌}
+use Rattle.std.specs.Prelude.{◌≡◌, Bool, true, false, not, ◌&&◌, ◌||◌, List, [], map, ℕ, eqb, leb, length, take, drop, get_or, replicate, if◌then◌else◌}
 use Rattle.rules.specs.Base.{option, find, any, keep, Bytes}
 use Rattle.rules.specs.Data.{Pair, same_pair, Dir, Inbound, Outbound, Holder, ALeg, APeer, Proven, Live, Acked, Probing, PathRec, LinkRec}
 use Rattle.rules.specs.Links.{numbered, path_at}
-use Rattle.lib_laws.specs.Shift.{Kept}
 use Rattle.lib_laws.specs.Cell.{num, byte_of, flag_of, Code}
 use Rattle.lib_laws.specs.Fields.{cuts}
 use Rattle.lib_laws.specs.Store.{Store, entries}
 use Rattle.node_addr.specs.Place.{pair_of, PairCell}
-use Rattle.node_addr.specs.View.{view_pair, FitPair, blank_pair}
+use Rattle.node_addr.specs.View.{view_pair}
 use Rattle.node_addr.specs.Layout.{pair_width}
 use Rattle.links_entry.specs.Layout.{link_ws, at_link_count, at_path_count, at_path_state, link_cap, link_width, path_cap, path_width}
 use Rattle.links_entry.specs.declared.record.Dir as dirs
 use Rattle.links_entry.specs.declared.record.Dir.TheVariants as dirv
+use Rattle.links_entry.specs.declared.record.Holder as holders
+use Rattle.links_entry.specs.declared.record.Holder.TheVariants as holderv
 use Rattle.links_entry.specs.declared.record.Proven as provens
 use Rattle.links_entry.specs.declared.record.Proven.TheVariants as provenv
 use Rattle.links_entry.specs.declared.record.Path as path
@@ -86,6 +87,7 @@ FitLink c = FitFields (cuts 0 0 link_ws c)
 abbrev pub view_links : Bytes → List LinkRec
 view_links s = entries link_of link_width link_cap s
 
+-- a clause of each function that is lent the region: a struct that lends it would ask of each caller that the reference within keeps its name
 abbrev pub FitLinks : Bytes → Type 0
 FitLinks s = Store FitLink link_width link_cap s
 
@@ -138,11 +140,9 @@ view_proven provenv.Probing = Probing
 abbrev pub view_path : path.Path → PathRec
 view_path w = record { pair = view_pair w.pair; state = view_proven w.state }
 
-abbrev pub FitPathRec : path.Path → Type 0
-FitPathRec w = FitPair w.pair
-
-abbrev pub blank_path : path.Path
-blank_path = record { pair = blank_pair; state = provenv.Live }
+abbrev pub view_holder : holders.Holder → Holder
+view_holder holderv.Leg = ALeg
+view_holder (holderv.Peer p) = APeer p.0
 
 abbrev pub view_link : linkrec.LinkRec → LinkRec
 view_link r =
@@ -150,12 +150,7 @@ view_link r =
       no = r.no.0;
       setup = view_pair r.setup;
       dir = view_dir r.dir;
-      holder = if r.leg then ALeg else APeer r.peer.0;
-      paths = map view_path (take r.count r.paths);
+      holder = view_holder r.holder;
+      paths = map view_path r.paths.items;
       released = r.released;
     }
-
-pub record FitRec (r : linkrec.LinkRec) : Type 0 where
-  pub setup : FitPair r.setup
-  pub peer : length r.peer.0 ≡ 16
-  pub paths : Kept FitPathRec blank_path 4 r.count r.paths

@@ -16,11 +16,6 @@ pub const PATHS_LEN: usize = PATH_COUNT + 1;
 // The addresses of a link: its setup and its paths.
 pub const ADDRESS_CAP: usize = 1 + PATH_CAP;
 
-// The byte of a path's state that is probing, and of the count of paths where no more fit.
-pub const PROBING: u8 = 2;
-
-pub const PATHS_FULL: u8 = 4;
-
 // A link: number, setup, direction, holder (1: a leg; 0: the peer behind it), released, paths.
 pub const SETUP: usize = U64;
 

@@ -1,47 +1,41 @@
 // A link's paths in lent memory: up to four in the order they came, and their count.
-ghost use Rattle.std.specs.Prelude.{◌≡◌, false, not, [], ◌∷◌, ◌++◌, map, ◌<◌, take, drop, get_or, set};
+ghost use Rattle.std.specs.Prelude.{◌≡◌, false, not, [], ◌∷◌, ◌++◌, map, ◌<◌, drop, get_or, set};
 ghost use Rattle.rules.specs.Base.{any, keep};
-ghost use Rattle.rules.specs.Field.{state_code};
-ghost use Rattle.rules.specs.Links.{path_at, proven_at, set_path};
-ghost use Rattle.lib_laws.specs.Shift.{Kept, erase};
+ghost use Rattle.rules.specs.Links.{counts, path_at, proven_at, set_path};
+ghost use Rattle.lib_laws.specs.Shift.{erase};
 ghost use Rattle.lib_laws.specs.Scan.{scan};
 ghost use Rattle.lib_laws.specs.Chunk.{chunks};
-ghost use Rattle.node_addr.specs.View.{FitPair, view_pair, Finds};
+ghost use Rattle.node_addr.specs.View.{view_pair};
 ghost use Rattle.node_addr.specs.Place.{pair_here, PairIn};
 ghost use Rattle.links_entry.specs.Asking.{Sifted};
-ghost use Rattle.links_entry.specs.View.{state_of, view_proven, FitPaths, view_paths, path_count, path_of, no_path, new_path, in_state, full, view_path, FitPathRec, blank_path};
+ghost use Rattle.links_entry.specs.View.{view_proven, FitPaths, view_paths, path_count, path_of, no_path, new_path, in_state, full, view_path};
 ghost use Rattle.links_entry.specs.Layout.{path_cap, path_width};
 
-use crate::layout::{PATH_CAP, PATH_COUNT, PATH_STATE, PATH_WIDTH, PATHS_FULL, PROBING};
+use crate::layout::{PATH_CAP, PATH_COUNT, PATH_STATE, PATH_WIDTH};
 use crate::record::{Path, Proven};
+use arrayvec::ArrayVec;
 use lib_bytes::read::get_byte;
 use lib_bytes::write::put_byte;
 use lib_region::remove_chunk;
+use node_addr::Pair;
 use node_addr::place::{eq_pair_at, eq_wire_pair, load_pair, put_pair};
-use node_addr::{Found, Pair, blank_pair};
 
-pub(crate) fn state_code(v: Proven) -> u8
-    ensures { result ≡ state_code (view_proven v) }
+// Whether the path at a place counts.
+fn counts_at(s: &[u8], j: usize) -> bool
+    requires fit_paths { FitPaths s.now }
+    requires j_bound { j < path_count s.now }
+    ensures { result ≡ counts (path_of (get_or (chunks path_width path_cap s.now) j [])).state }
 {
-    match v {
-        Proven::Live => 0,
-        Proven::Acked => 1,
-        Proven::Probing => 2,
-    }
+    get_byte(s, j * PATH_WIDTH + PATH_STATE) != Proven::Probing as u8
 }
 
 // Whether the path at a place is at the pair and counts.
 fn proven_path(s: &[u8], j: usize, p: Pair) -> bool
     requires fit_paths { FitPaths s.now }
     requires j_bound { j < path_count s.now }
-    requires fit_pair { FitPair p }
     ensures { result ≡ proven_at (view_pair p) (path_of (get_or (chunks path_width path_cap s.now) j [])) }
 {
-    let at = j * PATH_WIDTH;
-    if get_byte(s, at + PATH_STATE) == PROBING {
-        return false;
-    }
-    eq_pair_at(s, at, p)
+    eq_pair_at(s, j * PATH_WIDTH, p) && counts_at(s, j)
 }
 
 // Whether the j-th of a link's paths is at the pair that the record spells from `from` on, and counts.
@@ -51,60 +45,43 @@ pub(crate) fn wire_proven_path(s: &[u8], j: usize, rec: &[u8], from: usize) -> b
     requires pair_in { PairIn rec.now from }
     ensures { result ≡ proven_at (pair_here (drop from rec.now)) (path_of (get_or (chunks path_width path_cap s.now) j [])) }
 {
-    let a = j * PATH_WIDTH;
-    if get_byte(s, a + PATH_STATE) == PROBING {
-        return false;
-    }
-    eq_wire_pair(s, a, rec, from)
+    eq_wire_pair(s, j * PATH_WIDTH, rec, from) && counts_at(s, j)
 }
 
 // Whether a path is at the pair and counts.
 pub(crate) fn proves(s: &[u8], p: Pair) -> bool
-    requires fit_paths { FitPaths s.now }
-    requires fit_pair { FitPair p }
+    requires { FitPaths s.now }
     ensures { result ≡ any (proven_at (view_pair p)) (view_paths s.now) }
 {
     let n = s[PATH_COUNT] as usize;
-    let mut j = 0;
-    while j < n {
+    for j in 0..n {
         if proven_path(s, j, p) {
             return true;
         }
-        j += 1;
     }
     false
 }
 
 // The place of the path at the pair.
-pub(crate) fn find_path(s: &[u8], p: Pair) -> Found
-    requires fit_paths { FitPaths s.now }
-    requires fit_pair { FitPair p }
-    ensures { Finds result (scan (path_at (view_pair p)) 0 (view_paths s.now)) }
+pub(crate) fn find_path(s: &[u8], p: Pair) -> Option<usize>
+    requires { FitPaths s.now }
+    ensures { result ≡ scan (path_at (view_pair p)) 0 (view_paths s.now) }
 {
     let n = s[PATH_COUNT] as usize;
-    let mut j = 0;
-    while j < n {
+    for j in 0..n {
         if eq_pair_at(s, j * PATH_WIDTH, p) {
-            return Found::At(j);
+            return Some(j);
         }
-        j += 1;
     }
-    Found::Nothing
+    None
 }
 
 // Whether a path at the pair would be a fifth.
 pub(crate) fn full_at(s: &[u8], p: Pair) -> bool
-    requires fit_paths { FitPaths s.now }
-    requires fit_pair { FitPair p }
+    requires { FitPaths s.now }
     ensures { result ≡ full (view_pair p) (view_paths s.now) }
 {
-    if s[PATH_COUNT] < PATHS_FULL {
-        return false;
-    }
-    match find_path(s, p) {
-        Found::At(_) => false,
-        Found::Nothing => true,
-    }
+    s[PATH_COUNT] as usize >= PATH_CAP && find_path(s, p).is_none()
 }
 
 // The path at a place is now in state v.
@@ -114,40 +91,32 @@ fn set_state(s: &mut [u8], j: usize, v: Proven)
     ensures fit_paths_2 { FitPaths s.new }
     ensures s_after { view_paths s.new ≡ set (view_paths s.old) j (in_state (view_proven v) (get_or (view_paths s.old) j no_path)) }
 {
-    let b = state_code(v);
-    put_byte(s, j * PATH_WIDTH + PATH_STATE, b);
+    put_byte(s, j * PATH_WIDTH + PATH_STATE, v as u8);
 }
 
 // One more path.
 fn push_path(s: &mut [u8], p: Pair, v: Proven)
     requires fit_paths { FitPaths s.old }
-    requires fit_pair { FitPair p }
     requires s_bound { path_count s.old < 4 }
     ensures fit_paths_2 { FitPaths s.new }
     ensures s_after { view_paths s.new ≡ view_paths s.old ++ (new_path (view_pair p) (view_proven v) ∷ []) }
 {
     let n = s[PATH_COUNT] as usize;
-    let b = state_code(v);
     let a = put_pair(s, n * PATH_WIDTH, p);
-    put_byte(s, a, b);
+    put_byte(s, a, v as u8);
     s[PATH_COUNT] = (n + 1) as u8;
 }
 
 // A path at the pair is in state v: changed, or new.
 pub fn put_path(s: &mut [u8], p: Pair, v: Proven)
     requires fit_paths { FitPaths s.old }
-    requires fit_pair { FitPair p }
     requires s_value { full (view_pair p) (view_paths s.old) ≡ false }
     ensures fit_paths_2 { FitPaths s.new }
     ensures s_after { view_paths s.new ≡ set_path (view_pair p) (view_proven v) (view_paths s.old) }
 {
     match find_path(s, p) {
-        Found::At(j) => {
-            set_state(s, j, v);
-        }
-        Found::Nothing => {
-            push_path(s, p, v);
-        }
+        Some(j) => set_state(s, j, v),
+        None => push_path(s, p, v),
     }
 }
 
@@ -165,7 +134,6 @@ fn remove_path(s: &mut [u8], j: usize)
 fn sift(s: &mut [u8], j: usize, p: Pair) -> usize
     requires fit_paths { FitPaths s.old }
     requires j_bound { j < path_count s.old }
-    requires fit_pair { FitPair p }
     ensures fit_paths_2 { FitPaths s.new }
     ensures sifted { Sifted (λ w. not (path_at (view_pair p) w)) (view_paths s.old) j (view_paths s.new) result }
 {
@@ -179,13 +147,26 @@ fn sift(s: &mut [u8], j: usize, p: Pair) -> usize
 // The paths at the pair go.
 pub fn drop_paths(s: &mut [u8], p: Pair)
     requires fit_paths { FitPaths s.old }
-    requires fit_pair { FitPair p }
     ensures fit_paths_2 { FitPaths s.new }
     ensures s_after { view_paths s.new ≡ keep (λ w. not (path_at (view_pair p) w)) (view_paths s.old) }
 {
+    // Where a path goes the next one stands at j, so that j stays too.
     let mut j = 0;
     while j < s[PATH_COUNT] as usize {
         j = sift(s, j, p);
+    }
+}
+
+// The state of the path at a place.
+fn state_at(s: &[u8], j: usize) -> Proven
+    requires fit_paths { FitPaths s.now }
+    requires j_bound { j < path_count s.now }
+    ensures { view_proven result ≡ (path_of (get_or (chunks path_width path_cap s.now) j [])).state }
+{
+    match get_byte(s, j * PATH_WIDTH + PATH_STATE) {
+        0 => Proven::Live,
+        1 => Proven::Acked,
+        _ => Proven::Probing,
     }
 }
 
@@ -193,50 +174,23 @@ pub fn drop_paths(s: &mut [u8], p: Pair)
 fn load_path(s: &[u8], j: usize) -> Path
     requires fit_paths { FitPaths s.now }
     requires j_bound { j < path_count s.now }
-    ensures fit_path_rec { FitPathRec result }
-    ensures result_value { view_path result ≡ path_of (get_or (chunks path_width path_cap s.now) j []) }
+    ensures { view_path result ≡ path_of (get_or (chunks path_width path_cap s.now) j []) }
 {
-    let at = j * PATH_WIDTH;
-    let p = load_pair(s, at);
-    let b = get_byte(s, at + PATH_STATE);
-    let v = state_of(b);
-    Path { pair: p, state: v }
-}
-
-fn state_of(b: u8) -> Proven
-    ensures { view_proven result ≡ state_of b }
-{
-    match b {
-        0 => Proven::Live,
-        1 => Proven::Acked,
-        _ => Proven::Probing,
-    }
-}
-
-pub(crate) fn blank_path() -> Path
-    ensures { result ≡ blank_path }
-{
-    let p = blank_pair();
     Path {
-        pair: p,
-        state: Proven::Live,
+        pair: load_pair(s, j * PATH_WIDTH),
+        state: state_at(s, j),
     }
 }
 
-// The paths by value; blank past their count.
-pub(crate) fn load_paths(s: &[u8]) -> [Path; 4]
+// The paths by value.
+pub(crate) fn load_paths(s: &[u8]) -> ArrayVec<Path, PATH_CAP>
     requires { FitPaths s.now }
-    ensures kept { Kept FitPathRec blank_path 4 (path_count s.now) result }
-    ensures result_value { map view_path (take (path_count s.now) result) ≡ view_paths s.now }
+    ensures { map view_path result.items ≡ view_paths s.now }
 {
     let n = s[PATH_COUNT] as usize;
-    let b = blank_path();
-    let mut out = [b; PATH_CAP];
-    let mut j = 0;
-    while j < n {
-        let w = load_path(s, j);
-        out[j] = w;
-        j += 1;
+    let mut out = ArrayVec::new();
+    for j in 0..n {
+        out.push(load_path(s, j));
     }
     out
 }

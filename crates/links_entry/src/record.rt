@@ -1,7 +1,9 @@
 // A link record by value.
+use crate::layout::PATH_CAP;
+use arrayvec::ArrayVec;
 use node_addr::{LinkNo, NodeAddr, Pair};
 
-// Which end set the link up.
+// Which end set the link up. In memory each variant of Dir and Proven is its number.
 #[derive(Clone, Copy)]
 pub enum Dir {
     Inbound,
@@ -9,28 +11,33 @@ pub enum Dir {
 }
 
 // A path's state. A path that is probing keeps no connection open.
-#[derive(Clone, Copy)]
+#[derive(Clone, Copy, Default)]
 pub enum Proven {
+    #[default]
     Live,
     Acked,
     Probing,
 }
 
-#[derive(Clone, Copy)]
+#[derive(Clone, Copy, Default)]
 pub struct Path {
     pub pair: Pair,
     pub state: Proven,
 }
 
-// `leg`: a handshake leg holds the link; otherwise `peer` does. The first `count` paths are in use, the others blank.
+// What holds a link: a handshake leg, or the peer behind it.
 #[derive(Clone, Copy)]
+pub enum Holder {
+    Leg,
+    Peer(NodeAddr),
+}
+
+#[derive(Drop)]
 pub struct LinkRec {
     pub no: LinkNo,
     pub setup: Pair,
     pub dir: Dir,
-    pub leg: bool,
-    pub peer: NodeAddr,
+    pub holder: Holder,
     pub released: bool,
-    pub count: usize,
-    pub paths: [Path; 4],
+    pub paths: ArrayVec<Path, PATH_CAP>,
 }

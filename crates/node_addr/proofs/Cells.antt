@@ -1,6 +1,6 @@
 -- Laws of pairs and messages in lent memory: what is written shows, canonical cells which show the same are the same, and what was read at a place is what stands there.
-use Rattle.std.specs.Prelude.{◌≡◌, refl, Bool, true, false, ◌&&◌, [], ◌∷◌, ◌++◌, ℕ, ◌+◌, ◌-◌, ◌≤◌, eqb, length, take, drop, get_or, replicate}
-use Rattle.std.proofs.Common.{sym, ap, ◌∙◌, append_assoc, append-nil, one-add, arith, eqb-true, lit≤, take-take, take_at, drop_at, take_all, take-add, drop-drop, drop-cons, get_or-drop, length-take-le, length-take, length-drop, take-append-drop, Fits}
+use Rattle.std.specs.Prelude.{◌≡◌, refl, Bool, true, false, ◌&&◌, [], ◌∷◌, ◌++◌, ℕ, ◌+◌, ◌≤◌, eqb, length, take, drop, get_or, replicate}
+use Rattle.std.proofs.Common.{sym, ap, ◌∙◌, one-add, arith, eqb-true, lit≤, take-take, take_at, drop_at, take_all, take-add, drop-drop, drop-cons, get_or-drop, length-take-le, length-take, length-drop, take-append-drop, Fits}
 use Rattle.std.proofs.lemmas.Bool.{eqb-false}
 use Rattle.std.proofs.Math.ListN.{length-append}
 use Rattle.std.specs.Int.{w8, w32}
@@ -9,19 +9,21 @@ use Rattle.rules.specs.Bounds.{IsByte}
 use Rattle.rules.specs.Data.{Pair, same_pair}
 use Rattle.rules.specs.Field.{more, digits}
 use Rattle.lib_laws.specs.Shift.{all_take}
-use Rattle.lib_laws.specs.Buffer.{all_any, kept_filled, shown_filled}
+use Rattle.lib_laws.specs.Buffer.{all_any}
 use Rattle.lib_laws.specs.Beside.{same_apart}
 use Rattle.lib_laws.specs.Words.{Octets, octets_run, octets_take, number_same, same_append}
-use Rattle.lib_laws.specs.Splice.{length_digits, Wrote}
+use Rattle.lib_laws.specs.Splice.{length_digits}
 use Rattle.lib_laws.specs.Round.{more_digits}
 use Rattle.lib_laws.specs.Part.{part_of, part_at}
-use Rattle.lib_laws.specs.Cell.{num, byte_of, text_of, Text, text_same, num_same}
+use Rattle.lib_laws.specs.Cell.{num, text_of, Text, text_same, num_same}
 use Rattle.node_addr.specs.Layout.{message_width, pair_width}
-use Rattle.node_addr.specs.View.{view_pair, view_message, FitPair, FitMessage}
-use Rattle.node_addr.specs.Alike.{byte_here, pair_unlike, pair_like, same_unlike, same_kept}
+use Rattle.node_addr.specs.View.{view_pair}
+use Rattle.node_addr.specs.Padded.{view}
+use Rattle.node_addr.specs.declared.padded.Padded.{Padded}
+use Rattle.node_addr.proofs.Filled.{kept_padded}
+use Rattle.node_addr.specs.Alike.{byte_here, pair_unlike, pair_like}
 use Rattle.node_addr.specs.declared.Pair as pair
-use Rattle.node_addr.specs.declared.Message as message
-use Rattle.node_addr.specs.Place.{pair_of, PairCell, pair_cell, pair_here, PairIn, message_of, MessageCell, message_cell}
+use Rattle.node_addr.specs.Place.{pair_of, PairCell, pair_cell, pair_here, message_of, MessageCell, message_cell}
 
 -- ---- a pair
 
@@ -33,28 +35,32 @@ pair_parts s at = rw (part_of 0 4 pair_width (drop at s) (lit≤ tt), part_at pa
 pub pair_text : (s : Bytes) (at : ℕ) → PairCell (take pair_width (drop at s)) → Text 48 (take 1 (drop (at + 4) s)) (take 48 (drop (at + 5) s))
 pair_text s at c = rw (part_at pair_width s at 4 1 (lit≤ tt), part_at pair_width s at 5 48 (lit≤ tt)) at c.addr
 
+-- the address's cell in it
+pub pair_addr : (s : Bytes) (at : ℕ) → PairCell (take pair_width (drop at s)) → Text 48 (take 1 (drop (at + 4) s)) (take 48 (drop (at + 4 + 1) s))
+pair_addr s at c = let n : at + 4 + 1 ≡ at + 5 = omega arith in rw n (pair_text s at c)
+
 module _ (t n : ℕ) (bs : Bytes) where
-  cell_transport : take 4 ((digits 4 t ++ (n ∷ [])) ++ bs) ≡ digits 4 t
-  cell_transport = rw (append_assoc (digits 4 t) (n ∷ []) bs) (take_at (digits 4 t) ((n ∷ []) ++ bs) 4 (length_digits 4 t))
+  cell_transport : take 4 (digits 4 t ++ (n ∷ bs)) ≡ digits 4 t
+  cell_transport = take_at (digits 4 t) (n ∷ bs) 4 (length_digits 4 t)
 
-  cell_length : take 1 (drop 4 ((digits 4 t ++ (n ∷ [])) ++ bs)) ≡ n ∷ []
-  cell_length = rw (append_assoc (digits 4 t) (n ∷ []) bs, drop_at (digits 4 t) ((n ∷ []) ++ bs) 4 (length_digits 4 t))
+  cell_length : take 1 (drop 4 (digits 4 t ++ (n ∷ bs))) ≡ n ∷ []
+  cell_length = rw (drop_at (digits 4 t) (n ∷ bs) 4 (length_digits 4 t))
 
-  cell_addr : length bs ≡ 48 → take 48 (drop 5 ((digits 4 t ++ (n ∷ [])) ++ bs)) ≡ bs
+  cell_addr : length bs ≡ 48 → take 48 (drop 5 (digits 4 t ++ (n ∷ bs))) ≡ bs
   cell_addr h =
-      rw (drop_at (digits 4 t ++ (n ∷ [])) bs 5 (length-append (digits 4 t) (n ∷ []) ∙ rw (length_digits 4 t))) (take_all 48 bs (omega arith))
+      rw (← drop-drop 1 4 (digits 4 t ++ (n ∷ bs)), drop_at (digits 4 t) (n ∷ bs) 4 (length_digits 4 t)) (take_all 48 bs (omega arith))
 
-module _ {p : pair.Pair} (f : FitPair p) where
+module _ (p : pair.Pair) where
   pub pair_cell_length : length (pair_cell p) ≡ pair_width
   unfolding pair_cell
-  pair_cell_length = simp length-append (rw (length_digits 4 p.transport.0, f.addr.kept.size))
+  pair_cell_length = simp length-append (rw (length_digits 4 p.transport.0, p.addr.size))
 
   pub pair_cell_fit : PairCell (pair_cell p)
   unfolding pair_cell
   pair_cell_fit = record {
     size = pair_cell_length;
-    addr = rw (cell_length p.transport.0 p.addr.len p.addr.bytes, cell_addr p.transport.0 p.addr.len p.addr.bytes f.addr.kept.size) (
-        record { size = refl; kept = f.addr.kept }
+    addr = rw (cell_length p.transport.0 p.addr.len p.addr.bytes, cell_addr p.transport.0 p.addr.len p.addr.bytes p.addr.size) (
+        record { size = refl; kept = kept_padded p.addr }
         );
   }
 
@@ -63,7 +69,7 @@ module _ {p : pair.Pair} (f : FitPair p) where
   pair_cell_shows b = rw (
     cell_transport p.transport.0 p.addr.len p.addr.bytes,
     cell_length p.transport.0 p.addr.len p.addr.bytes,
-    cell_addr p.transport.0 p.addr.len p.addr.bytes f.addr.kept.size,
+    cell_addr p.transport.0 p.addr.len p.addr.bytes p.addr.size,
     more_digits 4 p.transport.0 b.fits,
   )
 
@@ -92,19 +98,11 @@ unfolding pair_of more
 pair_zeros_shows = refl
 
 -- a pair that was read at a place
-pub pair_loaded : (s : Bytes) (at t n : ℕ) (b : Bytes) → PairCell (take pair_width (drop at s)) → t ≡ num (take 4 (drop at s)) → n ≡ get_or s (at + 4) 0 → b ≡ take 48 (drop (at + 5) s) ++ []
-    → FitPair (record { transport = record { 0 = t }; addr = record { len = n; bytes = b } })
-    × (view_pair (record { transport = record { 0 = t }; addr = record { len = n; bytes = b } }) ≡ pair_of (take pair_width (drop at s)))
-pair_loaded s at t n b c e f g =
-    let n-is : n ≡ byte_of (take 1 (drop (at + 4) s)) = f ∙ byte_here s (at + 4) in
-    let b-is : b ≡ take 48 (drop (at + 5) s) = g ∙ append-nil (take 48 (drop (at + 5) s)) in
-    (record { addr = record { kept = rw (n-is, b-is) (pair_text s at c).kept } }, rw (e, n-is, b-is) (sym (pair_parts s at)))
-
--- a pair that was written
-pub pair_written : {p : pair.Pair} {xs : Bytes} {at : ℕ} {ys : Bytes} {r : ℕ} → FitPair p
-    → Wrote xs at pair_width ((digits 4 p.transport.0 ++ (p.addr.len ∷ [])) ++ take 48 p.addr.bytes) ys r → Wrote xs at pair_width (pair_cell p) ys r
-unfolding pair_cell
-pair_written {p} f w = rw (take_all 48 p.addr.bytes (omega (arith, f.addr.kept.size))) at w
+pub pair_loaded : (s : Bytes) (at t : ℕ) (a : Padded 48) → t ≡ num (take 4 (drop at s)) → view a ≡ text_of (take 1 (drop (at + 4) s)) (take 48 (drop (at + 4 + 1) s))
+    → view_pair (record { transport = record { 0 = t }; addr = a }) ≡ pair_of (take pair_width (drop at s))
+pair_loaded s at t a e f =
+    let n : at + 4 + 1 ≡ at + 5 = omega arith in
+    rw (e, f, n) (sym (pair_parts s at))
 
 -- a pair beside the one at a place: the transports differ, the lengths differ, and neither
 module _ (s : Bytes) (at : ℕ) (p : pair.Pair) where
@@ -112,36 +110,24 @@ module _ (s : Bytes) (at : ℕ) (p : pair.Pair) where
   pair_other e d = rw (pair_parts s at) (
       pair_unlike (view_pair p) (record { transport = num (take 4 (drop at s)); addr = text_of (take 1 (drop (at + 4) s)) (take 48 (drop (at + 5) s)) }) (λ q. d (e ∙ sym q)))
 
-  pub pair_longer : {t n : ℕ} → FitPair p → PairCell (take pair_width (drop at s)) → t ≡ num (take 4 (drop at s)) → t ≡ p.transport.0 → n ≡ get_or s (at + 4) 0 → (n ≡ p.addr.len → ⊥)
-      → false ≡ same_pair (view_pair p) (pair_of (take pair_width (drop at s)))
-  pair_longer f c e d g h = rw (pair_parts s at) (
+  pub pair_beside : {r : Bool} {t : ℕ} → t ≡ num (take 4 (drop at s)) → t ≡ p.transport.0 → r ≡ same (view p.addr) (text_of (take 1 (drop (at + 4) s)) (take 48 (drop (at + 4 + 1) s)))
+      → r ≡ same_pair (view_pair p) (pair_of (take pair_width (drop at s)))
+  pair_beside e d k =
+      let n : at + 4 + 1 ≡ at + 5 = omega arith in
+      rw (pair_parts s at) (
       pair_like
       (view_pair p)
       (record { transport = num (take 4 (drop at s)); addr = text_of (take 1 (drop (at + 4) s)) (take 48 (drop (at + 5) s)) })
       (sym d ∙ e)
-      (same_unlike f.addr.kept (pair_text s at c).kept (λ q. h (g ∙ byte_here s (at + 4) ∙ sym q))))
-
-  pub pair_beside : {r : Bool} {t n : ℕ} → FitPair p → PairCell (take pair_width (drop at s)) → t ≡ num (take 4 (drop at s)) → t ≡ p.transport.0 → n ≡ get_or s (at + 4) 0 → n ≡ p.addr.len
-      → r ≡ same (take 48 p.addr.bytes) (take 48 (drop (at + 5) s)) → r ≡ same_pair (view_pair p) (pair_of (take pair_width (drop at s)))
-  pair_beside f c e d g h k = rw (pair_parts s at) (
-      pair_like
-      (view_pair p)
-      (record { transport = num (take 4 (drop at s)); addr = text_of (take 1 (drop (at + 4) s)) (take 48 (drop (at + 5) s)) })
-      (sym d ∙ e)
-      (same_kept f.addr.kept (pair_text s at c).kept (sym h ∙ g ∙ byte_here s (at + 4)) (k ∙ rw (take-take 48 48 (drop (at + 5) s) (lit≤ tt)))))
+      (rw n at k))
 
 -- ---- a pair as a record spells it
 
 -- read by value
-pub spelt_loaded : (u : Bytes) (from t n : ℕ) (b : Bytes) → PairIn u from → t ≡ num (take 4 (drop from u)) → n ≡ get_or u (from + 4) 0 → b ≡ take n (drop (from + 5) u) ++ replicate (48 - n) 0
-    → FitPair (record { transport = record { 0 = t }; addr = record { len = n; bytes = b } })
-    × (view_pair (record { transport = record { 0 = t }; addr = record { len = n; bytes = b } }) ≡ pair_here (drop from u))
+pub spelt_loaded : (u : Bytes) (from t n : ℕ) (a : Padded 48) → t ≡ num (take 4 (drop from u)) → n ≡ get_or u (from + 4) 0 → view a ≡ take n (drop (from + 5) u)
+    → view_pair (record { transport = record { 0 = t }; addr = a }) ≡ pair_here (drop from u)
 unfolding pair_here
-spelt_loaded u from t n b p et en eb =
-    let l : length (take n (drop (from + 5) u)) ≡ n = length-take-le n (drop (from + 5) u) (rw length-drop (omega (arith, p.room, en))) in (
-      record { addr = record { kept = kept_filled (take n (drop (from + 5) u)) 48 n b l (omega (arith, p.small, en)) eb } },
-      rw (shown_filled (take n (drop (from + 5) u)) (48 - n) n b l eb, et, get_or-drop from u 4 0, ← en, drop-drop 5 from u),
-    )
+spelt_loaded u from t n a et en ea = rw (et, ea, get_or-drop from u 4 0, ← en, drop-drop 5 from u)
 
 pair_cut : (n : ℕ) (s : Bytes) → 5 + n ≤ length s → take (5 + n) s ≡ take 4 s ++ (get_or s 4 0 ∷ take n (drop 5 s))
 pair_cut n s h =
@@ -189,21 +175,21 @@ message_parts s at = rw (part_of 0 1 message_width (drop at s) (lit≤ tt), part
 pub message_text : (s : Bytes) (at : ℕ) → MessageCell (take message_width (drop at s)) → Text 128 (take 1 (drop at s)) (take 128 (drop (at + 1) s))
 message_text s at c = rw (part_of 0 1 message_width (drop at s) (lit≤ tt), part_at message_width s at 1 128 (lit≤ tt)) at c.text
 
-module _ {m : message.Message} (f : FitMessage m) where
+module _ (m : Padded 128) where
   pub message_cell_length : length (message_cell m) ≡ message_width
   unfolding message_cell
-  message_cell_length = rw f.kept.size
+  message_cell_length = rw m.size
 
   pub message_cell_fit : MessageCell (message_cell m)
   unfolding message_cell
   message_cell_fit = record {
     size = message_cell_length;
-    text = rw (take_all 128 m.bytes (omega (arith, f.kept.size))) (record { size = refl; kept = f.kept });
+    text = rw (take_all 128 m.bytes (omega (arith, m.size))) (record { size = refl; kept = kept_padded m });
   }
 
-  pub message_cell_shows : message_of (message_cell m) ≡ view_message m
+  pub message_cell_shows : message_of (message_cell m) ≡ view m
   unfolding message_of message_cell
-  message_cell_shows = rw (take_all 128 m.bytes (omega (arith, f.kept.size)))
+  message_cell_shows = rw (take_all 128 m.bytes (omega (arith, m.size)))
 
 message_whole : (c : Bytes) → length c ≡ message_width → c ≡ take 1 c ++ take 128 (drop 1 c)
 message_whole c h = sym (take-append-drop 1 c) ∙ ap (λ (u : Bytes). take 1 c ++ u) (sym (take_all 128 (drop 1 c) (rw length-drop (omega arith))))
@@ -220,24 +206,3 @@ message_zeros = record { size = refl; text = record { size = refl; kept = record
 pub message_zeros_shows : message_of (replicate message_width 0) ≡ []
 unfolding message_of
 message_zeros_shows = refl
-
-pub message_loaded : (s : Bytes) (at n : ℕ) (b : Bytes) → MessageCell (take message_width (drop at s)) → n ≡ get_or s at 0 → b ≡ take 128 (drop (at + 1) s) ++ []
-    → FitMessage (record { len = n; bytes = b }) × (view_message (record { len = n; bytes = b }) ≡ message_of (take message_width (drop at s)))
-message_loaded s at n b c f g =
-    let n-is : n ≡ byte_of (take 1 (drop at s)) = f ∙ byte_here s at in
-    let b-is : b ≡ take 128 (drop (at + 1) s) = g ∙ append-nil (take 128 (drop (at + 1) s)) in
-    (record { kept = rw (n-is, b-is) (message_text s at c).kept }, rw (n-is, b-is) (sym (message_parts s at)))
-
-pub message_written : {m : message.Message} {xs : Bytes} {at : ℕ} {ys : Bytes} {r : ℕ} → FitMessage m
-    → Wrote xs at message_width ((m.len ∷ []) ++ take 128 m.bytes) ys r → Wrote xs at message_width (message_cell m) ys r
-unfolding message_cell
-message_written {m} f w = rw (take_all 128 m.bytes (omega (arith, f.kept.size))) at w
-
-module _ (s : Bytes) (at : ℕ) (m : message.Message) (f : FitMessage m) (c : MessageCell (take message_width (drop at s))) where
-  pub message_longer : {n : ℕ} → n ≡ get_or s at 0 → (n ≡ m.len → ⊥) → false ≡ same (view_message m) (message_of (take message_width (drop at s)))
-  message_longer g h = rw (message_parts s at) (same_unlike f.kept (message_text s at c).kept (λ q. h (g ∙ byte_here s at ∙ sym q)))
-
-  pub message_beside : {r : Bool} {n : ℕ} → n ≡ get_or s at 0 → n ≡ m.len → r ≡ same (take 128 m.bytes) (take 128 (drop (at + 1) s))
-      → r ≡ same (view_message m) (message_of (take message_width (drop at s)))
-  message_beside g h k = rw (message_parts s at) (
-      same_kept f.kept (message_text s at c).kept (sym h ∙ g ∙ byte_here s at) (k ∙ rw (take-take 128 128 (drop (at + 1) s) (lit≤ tt))))

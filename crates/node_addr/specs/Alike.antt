@@ -59,3 +59,10 @@ pair_unlike p q d = rw (ne_eqb p.transport q.transport d)
 
 pub pair_like : {r : Bool} (p q : Pair) → p.transport ≡ q.transport → r ≡ same p.addr q.addr → r ≡ same_pair p q
 pair_like p q e h = h ∙ sym (rw (eq-eqb p.transport q.transport e))
+
+-- buffers with as much in use compared whole
+pub same_arrays : {cap n m : ℕ} {x y : Bytes} → Kept Any 0 cap n x → Kept Any 0 cap m y → n ≡ m → same x y ≡ same (take n x) (take m y)
+same_arrays {cap} {n} {m} {x} {y} a b h = same_kept a b h (same_whole' cap x y a.size b.size)
+  where
+    same_whole' : (n : ℕ) (x y : Bytes) → length x ≡ n → length y ≡ n → same x y ≡ same (take n x) (take n y)
+    same_whole' n x y h k = rw (take_all n x (omega arith), take_all n y (omega arith))

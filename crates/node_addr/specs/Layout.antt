@@ -1,5 +1,5 @@
 -- Widths of what stands in records and in lent memory, as src/layout.rt has them.
-use Rattle.std.specs.Prelude.{ℕ, ◌≡◌, refl, List, [], ◌∷◌}
+use Rattle.std.specs.Prelude.{ℕ, ◌≡◌, refl, [], ◌∷◌}
 use Rattle.lib_laws.specs.Fields.{ends}
 
 -- ---- an address, a digest

@@ -1,12 +1,13 @@
 -- Pairs and messages in lent memory: what their cells show, when a cell is canonical, what is written; and a pair as a record spells it. Their laws: proofs/Cells.
-use Rattle.std.specs.Prelude.{◌≡◌, [], ◌∷◌, ◌++◌, ℕ, ◌+◌, ◌≤◌, length, take, drop, get_or}
+use Rattle.std.specs.Prelude.{◌≡◌, ◌++◌, ℕ, ◌+◌, ◌≤◌, length, take, drop, get_or}
 use Rattle.rules.specs.Base.{Bytes}
 use Rattle.rules.specs.Data.{Pair}
 use Rattle.rules.specs.Field.{digits}
 use Rattle.lib_laws.specs.Cell.{num, text_of, Text}
 use Rattle.node_addr.specs.Layout.{message_width, pair_width}
+use Rattle.node_addr.specs.Padded.{cell}
+use Rattle.node_addr.specs.declared.padded.Padded.{Padded}
 use Rattle.node_addr.specs.declared.Pair as pair
-use Rattle.node_addr.specs.declared.Message as message
 
 -- ---- a pair, 53 bytes: transport 4, length 1, address 48 with zeros behind
 
@@ -19,7 +20,7 @@ pub record PairCell (c : Bytes) : Type 0 where
 
 -- what is written of p
 unfoldable pub pair_cell : pair.Pair → Bytes
-pair_cell p = (digits 4 p.transport.0 ++ (p.addr.len ∷ [])) ++ p.addr.bytes
+pair_cell p = digits 4 p.transport.0 ++ cell p.addr
 
 -- ---- a pair as a record spells it: transport 4, length 1, and as many bytes
 
@@ -41,5 +42,5 @@ pub record MessageCell (c : Bytes) : Type 0 where
   pub text : Text 128 (take 1 c) (take 128 (drop 1 c))
 
 -- what is written of m
-unfoldable pub message_cell : message.Message → Bytes
-message_cell m = (m.len ∷ []) ++ m.bytes
+unfoldable pub message_cell : Padded 128 → Bytes
+message_cell m = cell m

@@ -1,76 +1,56 @@
-// Node addresses, transport addresses, digests and messages, by value.
+// Node addresses, transport addresses, digests and messages, by value and at a place of lent memory.
 #![tactic(auto)]
 
 pub mod layout;
+pub mod padded;
 pub mod place;
-pub mod run;
-pub mod same;
 
-ghost use Rattle.std.specs.Prelude.{◌≡◌};
-ghost use Rattle.node_addr.specs.View.{blank_digest, blank_pair, blank_message};
+ghost use Rattle.std.specs.Prelude.{◌≡◌, [], replicate};
+ghost use Rattle.node_addr.specs.View.{view_pair};
 
-#[derive(Clone, Copy)]
-pub struct NodeAddr(pub [u8; 16]);
+use crate::layout::{ADDR_CAP, DIGEST_LEN, MESSAGE_CAP, NODE_LEN};
+use crate::padded::Padded;
 
-#[derive(Clone, Copy)]
+// N bytes, compared whole.
+#[derive(Clone, Copy, PartialEq, Eq)]
+pub struct Fixed<const N: usize>(pub [u8; N]);
+
+pub type NodeAddr = Fixed<NODE_LEN>;
+
+pub type Digest = Fixed<DIGEST_LEN>;
+
+#[derive(Clone, Copy, PartialEq, Eq, Default)]
 pub struct LinkNo(pub u64);
 
-#[derive(Clone, Copy)]
+#[derive(Clone, Copy, PartialEq, Eq, Default)]
 pub struct TransportId(pub u32);
 
-#[derive(Clone, Copy)]
-pub struct Digest(pub [u8; 32]);
+pub type Addr = Padded<ADDR_CAP>;
 
-// Zeros past `len`.
-#[derive(Clone, Copy)]
-pub struct Addr {
-    pub len: usize,
-    pub bytes: [u8; 48],
-}
+pub type Message = Padded<MESSAGE_CAP>;
 
-#[derive(Clone, Copy)]
+#[derive(Clone, Copy, PartialEq, Eq)]
 pub struct Pair {
     pub transport: TransportId,
     pub addr: Addr,
 }
 
-// Zeros past `len`.
-#[derive(Clone, Copy)]
-pub struct Message {
-    pub len: usize,
-    pub bytes: [u8; 128],
-}
-
-// The answer of a search.
-#[derive(Clone, Copy)]
-pub enum Found {
-    At(usize),
-    Nothing,
-}
-
-pub fn blank_digest() -> Digest
-    ensures { result ≡ blank_digest }
-{
-    Digest([0u8; 32])
-}
-
-pub fn blank_pair() -> Pair
-    ensures { result ≡ blank_pair }
-{
-    Pair {
-        transport: TransportId(0),
-        addr: Addr {
-            len: 0,
-            bytes: [0u8; 48],
-        },
+impl<const N: usize> Default for Fixed<N> {
+    fn default() -> Self
+        ensures { result.0 ≡ replicate N 0 }
+    {
+        Fixed([0; N])
     }
 }
 
-pub fn blank_message() -> Message
-    ensures { result ≡ blank_message }
-{
-    Message {
-        len: 0,
-        bytes: [0u8; 128],
+// Transport 0, no address.
+impl Default for Pair {
+    fn default() -> Self
+        ensures { view_pair result ≡ record { transport = 0; addr = [] } }
+    {
+        Pair {
+            transport: TransportId(0),
+            addr: Addr::empty(),
+        }
     }
 }

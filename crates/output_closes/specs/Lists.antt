@@ -1,17 +1,19 @@
 -- Lists of pairs: what a row of pairs makes, the loop that writes them, and the records with a list, whose header is written last.
-use Rattle.std.specs.Prelude.{◌≡◌, refl, List, [], ◌∷◌, ◌++◌, map, ℕ, suc, ◌+◌, ◌*◌, ◌≤◌, ◌<◌, length, take, drop, get_or}
-use Rattle.std.proofs.Common.{sym, ap, ◌∙◌, append_assoc, append-nil, add-zero, add-one, arith, drop-cons, get_or-take, length-take-le, length-append, drop_of_length-le}
-use Rattle.std.proofs.lemmas.List.{length-map}
-use Rattle.rules.specs.Base.{All, Bytes}
+use Rattle.std.specs.Prelude.{◌≡◌, refl, List, [], ◌∷◌, ◌++◌, map, ℕ, ◌+◌, ◌*◌, ◌≤◌, ◌<◌, length, take, drop, get_or}
+use Rattle.std.proofs.Common.{sym, ap, append_assoc, append-nil, add-zero, add-one, arith, length-append, take-append-drop}
+use Rattle.std.proofs.lemmas.List.{length-map, map-append}
+use Rattle.std.proofs.Math.Seq.{take-suc}
+use Rattle.rules.specs.Base.{Bytes}
 use Rattle.rules.specs.Data.{Pair, Output, Retire}
 use Rattle.rules.specs.Field.{digits, pair_bytes}
 use Rattle.rules.specs.Output.{pairs_bytes, list_bytes, output_bytes, output_record}
-use Rattle.lib_laws.specs.Shift.{Kept, all_take, all_at}
-use Rattle.lib_laws.specs.Splice.{splice, length_splice, splice_none, splice_splice, length_digits, Wrote, wrote_then}
+use Rattle.lib_laws.specs.Splice.{splice_none, length_digits, Wrote, wrote_then}
 use Rattle.node_addr.specs.declared.Pair as pair
-use Rattle.node_addr.specs.View.{view_pair, FitPair}
+use Rattle.node_addr.specs.View.{view_pair}
 use Rattle.output_field.specs.Part.{header, pair_length, frame_is, wrote_before}
 use Rattle.node_addr.specs.Layout.{pair_width}
+use Rattle.arrayvec.specs.ArrayVec.{ArrayVec, array_vec_len}
+use Rattle.links.specs.View.{view_closes}
 
 -- ---- a row of pairs
 
@@ -35,77 +37,45 @@ pairs_more s t a b = rw (pairs_append s t) (wrote_then a b)
 
 -- ---- lengths
 
-pairs_most : (ps : List pair.Pair) → All FitPair ps → length (pairs_bytes (map view_pair ps)) ≤ pair_width * length ps
-pairs_most [] a = omega arith
-pairs_most (p ∷ ps) a = omega (arith, length-append (pair_bytes (view_pair p)) (pairs_bytes (map view_pair ps)), pair_length a.0, a.0.addr.kept, pairs_most ps a.1)
+pairs_most : (ps : List pair.Pair) → length (pairs_bytes (map view_pair ps)) ≤ pair_width * length ps
+pairs_most [] = omega arith
+pairs_most (p ∷ ps) = omega (arith, length-append (pair_bytes (view_pair p)) (pairs_bytes (map view_pair ps)), pair_length p, p.addr.small, pairs_most ps)
 
--- a list of at most cap pairs
-pub pairs_small : {b : pair.Pair} {cap n : ℕ} {ps : List pair.Pair} → Kept FitPair b cap n ps → length (pairs_bytes (map view_pair (take n ps))) ≤ pair_width * n
-pairs_small {n = n} {ps} k =
-    let e : length (take n ps) ≡ n = length-take-le n ps (omega arith) in
-    rw e at (pairs_most (take n ps) (all_take FitPair n ps k.each))
+pub pairs_small : (c : ArrayVec pair.Pair) → length (pairs_bytes (view_closes c)) ≤ pair_width * array_vec_len c
+pairs_small c = pairs_most c.items
 
-pub pairs_count : {b : pair.Pair} {cap n : ℕ} {ps : List pair.Pair} → Kept FitPair b cap n ps → length (map view_pair (take n ps)) ≡ n
-pairs_count {n = n} {ps} k = length-map (take n ps) view_pair ∙ length-take-le n ps (omega arith)
+pub pairs_count : (c : ArrayVec pair.Pair) → length (view_closes c) ≡ array_vec_len c
+pairs_count c = length-map c.items view_pair
 
--- ---- the loop that puts the first n pairs of ps, and stands at i: what is left to put makes the whole
-pub record Listing (xs : Bytes) (at n : ℕ) (ps : List pair.Pair) (l : Bytes) (e i : ℕ) : Type 0 where
-  pub within : i ≤ n
-  pub source : n ≤ length ps
-  pub each : All FitPair ps
-  pub size : length l ≡ length xs
-  pub room : at + length (pairs_bytes (map view_pair (take n ps))) ≤ length xs
-  pub next : e + length (pairs_bytes (map view_pair (drop i (take n ps)))) ≡ at + length (pairs_bytes (map view_pair (take n ps)))
-  pub left : splice l e (pairs_bytes (map view_pair (drop i (take n ps)))) ≡ splice xs at (pairs_bytes (map view_pair (take n ps)))
+-- ---- the loop that puts the pairs ps, and stands at pair i, which is p: those before it are put
+abbrev pub row : List pair.Pair → Bytes
+row ps = pairs_bytes (map view_pair ps)
 
-pub listing_start : {b : pair.Pair} {cap : ℕ} (xs : Bytes) (at n : ℕ) (ps : List pair.Pair) → Kept FitPair b cap n ps → at + length (pairs_bytes (map view_pair (take n ps))) ≤ length xs
-    → Listing xs at n ps xs at 0
-listing_start xs at n ps k h = record { within = omega arith; source = omega arith; each = k.each; size = refl; room = h; next = refl; left = refl }
+row_append : (s t : List pair.Pair) → row (s ++ t) ≡ row s ++ row t
+row_append s t = rw (map-append view_pair s t) (pairs_append (map view_pair s) (map view_pair t))
 
-module _ {xs : Bytes} {at n : ℕ} {ps : List pair.Pair} {l : Bytes} {e i : ℕ} (a : Listing xs at n ps l e i) where
-  rest_cons : (d : pair.Pair) → i < n → pairs_bytes (map view_pair (drop i (take n ps))) ≡ pair_bytes (view_pair (get_or ps i d)) ++ pairs_bytes (map view_pair (drop (suc i) (take n ps)))
-  rest_cons d p =
-      let h : length (take n ps) ≡ n = length-take-le n ps a.source in
-      rw (drop-cons (take n ps) i d (rw h p), get_or-take n ps i d p)
+module _ (ps : List pair.Pair) (i : ℕ) (p : pair.Pair) (e : p ≡ get_or ps i p) (h : i < length ps) where
+  -- one more
+  row_more : row (take (i + 1) ps) ≡ row (take i ps) ++ pair_bytes (view_pair p)
+  row_more = rw (add-one i, take-suc ps i p h, ← e, row_append (take i ps) (p ∷ []), append-nil (pair_bytes (view_pair p)))
 
-  pub listing_fit : (d : pair.Pair) → i < n → FitPair (get_or ps i d)
-  listing_fit d p = all_at FitPair ps i d a.each (omega arith)
-
-  -- room for the pair at i
-  pub listing_room : (d : pair.Pair) → i < n → e + (5 + (get_or ps i d).addr.len) ≤ length l
-  listing_room d p =
+  -- room for it
+  pub row_room : length (row (take i ps)) + (5 + p.addr.len) ≤ length (row ps)
+  row_room =
       omega (
         arith,
-        ap length (rest_cons d p),
-        length-append (pair_bytes (view_pair (get_or ps i d))) (pairs_bytes (map view_pair (drop (suc i) (take n ps)))),
-        pair_length (listing_fit d p),
+        pair_length p,
+        length-append (row (take i ps)) (pair_bytes (view_pair p)),
+        ap length row_more,
+        length-append (row (take (i + 1) ps)) (row (drop (i + 1) ps)),
+        ap length (row_append (take (i + 1) ps) (drop (i + 1) ps)),
+        ap (λ (s : List pair.Pair). length (row s)) (take-append-drop (i + 1) ps),
       )
 
-  pub listing_turn : {m : ℕ} {l' : Bytes} {e' : ℕ} (d : pair.Pair) → i < n → Wrote l e m (pair_bytes (view_pair (get_or ps i d))) l' e' → Listing xs at n ps l' e' (i + 1)
-  listing_turn {m} {l'} {e'} d p w =
-      let s : Bytes = pair_bytes (view_pair (get_or ps i d)) in
-      let t : Bytes = pairs_bytes (map view_pair (drop (suc i) (take n ps))) in
-      let g : length l' ≡ length l = ap length w.is ∙ length_splice l e s (rw w.size w.room) in
-      rw add-one
-      (record {
-        within = omega arith;
-        source = a.source;
-        each = a.each;
-        size = g ∙ a.size;
-        room = a.room;
-        next = omega (arith, a.next, ap length (rest_cons d p), length-append s t, w.size, w.end);
-        left = rw (w.is, w.end, ← w.size) (splice_splice l e s t (rw w.size w.room)) ∙ ap (λ (u : Bytes). splice l e u) (sym (rest_cons d p)) ∙ a.left;
-      })
-
-  pub listing_end : n ≤ i → Wrote xs at (length (pairs_bytes (map view_pair (take n ps)))) (pairs_bytes (map view_pair (take n ps))) l e
-  listing_end p =
-      let z : drop i (take n ps) ≡ [] = drop_of_length-le (take n ps) {i = i} (rw (length-take-le n ps a.source) p) in
-      record {
-        end = sym (add-zero e) ∙ (rw z at a.next);
-        size = refl;
-        room = a.room;
-        is = sym (splice_none l e) ∙ (rw z at a.left);
-      }
+  pub row_put : {xs : Bytes} {at : ℕ} {ys : Bytes} {a m : ℕ} {zs : Bytes} {q : ℕ}
+      → Wrote xs at (length (row (take i ps))) (row (take i ps)) ys a → Wrote ys a m (pair_bytes (view_pair p)) zs q
+      → Wrote xs at (length (row (take (i + 1) ps))) (row (take (i + 1) ps)) zs q
+  row_put v w = let x = wrote_then v w in rw (row_more, x.size) x
 
 -- ---- records with a list
 

@@ -1,12 +1,13 @@
 // The outputs with a list of pairs.
 #![tactic(auto)]
 
-ghost use Rattle.std.specs.Prelude.{[], ◌∷◌, ◌+◌, ◌≤◌, ◌<◌, length, if◌then◌else◌};
+ghost use Rattle.std.specs.Prelude.{[], ◌∷◌, ◌+◌, ◌≤◌, ◌<◌, length};
+ghost use Rattle.rules.specs.Base.{option};
 ghost use Rattle.rules.specs.Data.{Output, Retire};
 ghost use Rattle.rules.specs.Output.{pairs_bytes, output_record};
 ghost use Rattle.lib_laws.specs.Splice.{Wrote};
-ghost use Rattle.node_addr.specs.View.{view_pair, FitPair};
-ghost use Rattle.links.specs.View.{view_closes, FitCloses};
+ghost use Rattle.node_addr.specs.View.{view_pair};
+ghost use Rattle.links.specs.View.{view_closes};
 ghost use Rattle.output_closes.specs.Lists.{close_header};
 
 use lib_bytes::layout::U64;
@@ -14,36 +15,30 @@ use lib_bytes::write::put_be;
 use links::record::Closes;
 use node_addr::layout::FRAME_LEN;
 use node_addr::{LinkNo, Pair};
-use output_code::kind::{CLOSE, RELEASE, RETIRE};
+use output_code::kind::Kind;
 use output_field::layout::{LINK_LIST_HEAD, LINK_LIST_LEN, LIST_LEN, RELEASE_ONE_LEN};
 use output_field::{put_frame, put_pair};
 
 // The pairs one after another, without their count.
-pub fn put_pairs(out: &mut [u8], at: usize, c: Closes) -> usize
-    requires fit_closes { FitCloses c }
-    requires c_in_bounds { at + length (pairs_bytes (view_closes c)) ≤ length out.old }
-    ensures { Wrote out.old at (length (pairs_bytes (view_closes c))) (pairs_bytes (view_closes c)) out.new result }
+pub fn put_pairs(out: &mut [u8], at: usize, c: &Closes) -> usize
+    requires { at + length (pairs_bytes (view_closes c.now)) ≤ length out.old }
+    ensures { Wrote out.old at (length (pairs_bytes (view_closes c.now))) (pairs_bytes (view_closes c.now)) out.new result }
 {
-    let n = c.len;
     let mut e = at;
-    let mut i = 0;
-    while i < n {
-        let p = c.pairs[i];
-        e = put_pair(out, e, p);
-        i += 1;
+    for p in c.as_slice() {
+        e = put_pair(out, e, *p);
     }
     e
 }
 
 // 8: the pairs, and then the header before them.
-pub fn put_retire(out: &mut [u8], at: usize, link: LinkNo, c: Closes) -> usize
-    requires fit_closes { FitCloses c }
-    requires c_in_bounds { at + (13 + length (pairs_bytes (view_closes c))) ≤ length out.old }
-    ensures { Wrote out.old at (13 + length (pairs_bytes (view_closes c))) (output_record (Retire link.0 (view_closes c))) out.new result }
+pub fn put_retire(out: &mut [u8], at: usize, link: LinkNo, c: &Closes) -> usize
+    requires { at + (13 + length (pairs_bytes (view_closes c.now))) ≤ length out.old }
+    ensures { Wrote out.old at (13 + length (pairs_bytes (view_closes c.now))) (output_record (Retire link.0 (view_closes c.now))) out.new result }
 {
-    let n = c.len;
+    let n = c.len();
     let e = put_pairs(out, at + LINK_LIST_HEAD, c);
-    let a = put_frame(out, at, e - at - FRAME_LEN, RETIRE);
+    let a = put_frame(out, at, e - at - FRAME_LEN, Kind::Retire);
     let b = put_be(out, a, link.0, U64);
     put_be(out, b, n as u64, 1);
     e
@@ -53,35 +48,32 @@ fn put_release_none(out: &mut [u8], at: usize, link: LinkNo) -> usize
     requires { at + 13 ≤ length out.old }
     ensures { Wrote out.old at 13 (output_record (Output.Release link.0 [])) out.new result }
 {
-    let a = put_frame(out, at, LINK_LIST_LEN, RELEASE);
+    let a = put_frame(out, at, LINK_LIST_LEN, Kind::Release);
     let b = put_be(out, a, link.0, U64);
     put_be(out, b, 0, 1)
 }
 
 fn put_release_one(out: &mut [u8], at: usize, link: LinkNo, p: Pair) -> usize
-    requires fit_pair { FitPair p }
-    requires len_in_bounds { at + (18 + p.addr.len) ≤ length out.old }
+    requires { at + (18 + p.addr.len) ≤ length out.old }
     ensures { Wrote out.old at (18 + p.addr.len) (output_record (Output.Release link.0 (view_pair p ∷ []))) out.new result }
 {
-    let len = p.addr.len;
-    let a = put_frame(out, at, RELEASE_ONE_LEN + len, RELEASE);
+    let a = put_frame(out, at, RELEASE_ONE_LEN + p.addr.len, Kind::Release);
     let b = put_be(out, a, link.0, U64);
     let c = put_be(out, b, 1, 1);
     put_pair(out, c, p)
 }
 
 // 9, with the pair or with none.
-pub fn put_release(out: &mut [u8], at: usize, link: LinkNo, closes: bool, p: Pair) -> usize
-    requires fit_pair { FitPair p }
-    requires else_in_bounds { at + (if closes then (18 + p.addr.len) else 13) ≤ length out.old }
-    ensures { Wrote out.old at (if closes then (18 + p.addr.len) else 13)
-        (output_record (Output.Release link.0 (if closes then (view_pair p ∷ []) else [])))
+pub fn put_release(out: &mut [u8], at: usize, link: LinkNo, closed: Option<Pair>) -> usize
+    requires { at + option closed 13 (λ p. 18 + p.addr.len) ≤ length out.old }
+    ensures { Wrote out.old at (option closed 13 (λ p. 18 + p.addr.len))
+        (output_record (Output.Release link.0 (option closed [] (λ p. view_pair p ∷ []))))
         out.new result }
 {
-    if closes {
-        return put_release_one(out, at, link, p);
+    match closed {
+        Some(p) => put_release_one(out, at, link, p),
+        None => put_release_none(out, at, link),
     }
-    put_release_none(out, at, link)
 }
 
 // 10: the header over the 5 bytes before its pairs, which are `count` in n bytes.
@@ -91,6 +83,6 @@ pub fn put_close_header(out: &mut [u8], at: usize, count: usize, n: usize) -> us
     requires at_in_bounds { at + 5 ≤ length out.old }
     ensures { Wrote out.old at 5 (close_header count n) out.new result }
 {
-    let a = put_frame(out, at, LIST_LEN + n, CLOSE);
+    let a = put_frame(out, at, LIST_LEN + n, Kind::Close);
     put_be(out, a, count as u64, 1)
 }

@@ -1,12 +1,12 @@
 -- What each case of an enum means to the rules, and that a byte read gives the case that it was written for.
-use Rattle.std.specs.Prelude.{◌≡◌, refl, ℕ, ◌+◌, ◌≤◌, ◌<◌}
-use Rattle.std.proofs.Math.Option.{some}
-use Rattle.std.proofs.Common.{arith}
-use Rattle.std.proofs.Math.ListN.{get_elem?}
+use Rattle.std.specs.Prelude.{◌≡◌, refl, ℕ, ◌≤◌, Some, slice_get, Result, MatchResult}
 use Rattle.rules.specs.Data as rule
 use Rattle.rules.specs.Field.{whys, why_code}
 use Rattle.output_code.specs.declared.Why.{Why}
 use Rattle.output_code.specs.declared.Why.TheVariants as why
+use Rattle.output_code.specs.declared.UnknownWhy.{UnknownWhy}
+use Rattle.output_code.specs.declared.kind.Kind.{Kind}
+use Rattle.output_code.specs.declared.kind.Kind.TheVariants as kind
 use Rattle.output_code.specs.declared.Build.{Build}
 use Rattle.output_code.specs.declared.Build.TheVariants as build
 use Rattle.output_code.specs.declared.Transition.{Transition}
@@ -36,7 +36,7 @@ transition_of transition.Restarted = rule.Transition.Restarted
 transition_of transition.Roam = rule.Transition.Roam
 
 -- the case that a code byte names is the one whose code it is
-pub why_read : (w : rule.Why) → get_elem? whys (why_code w) ≡ some w
+pub why_read : (w : rule.Why) → slice_get whys (why_code w) ≡ Some w
 why_read rule.Why.Restart = refl
 why_read rule.Why.Replacement = refl
 why_read rule.Why.OwnRestart = refl
@@ -47,16 +47,24 @@ why_read rule.Why.Dead = refl
 why_read rule.Why.Admin = refl
 why_read rule.Why.Closed = refl
 
--- the last of nine
-past : {n : ℕ} (k : ℕ) → k ≤ n → (n ≡ k → ⊥) → k + 1 ≤ n
-past k h d = omega arith
+-- the result is the case with this code, or an error with a code that no case has
+abbrev pub DecodesWhy : ℕ → Result Why UnknownWhy → Type 0
+DecodesWhy code r = MatchResult r (λ w. why_code (why_of w) ≡ code) (λ e. (e.0 ≡ code) × (9 ≤ code))
 
-eight : (n : ℕ) → n < 9 → 8 ≤ n → 8 ≡ n
-eight n h k = omega arith
-
-pub why_last : (n : ℕ) → n < 9 → (n ≡ 0 → ⊥) → (n ≡ 1 → ⊥) → (n ≡ 2 → ⊥) → (n ≡ 3 → ⊥)
-    → (n ≡ 4 → ⊥) → (n ≡ 5 → ⊥) → (n ≡ 6 → ⊥) → (n ≡ 7 → ⊥) → 8 ≡ n
-why_last n h a b c d e f g i = eight n h (past 7 (past 6 (past 5 (past 4 (past 3 (past 2 (past 1 (past 0 (zero≤ n) a) b) c) d) e) f) g) i)
-  where
-    zero≤ : (n : ℕ) → 0 ≤ n
-    zero≤ n = omega arith
+-- the byte of each kind of output
+abbrev pub kind_code : Kind → ℕ
+kind_code kind.Done = 0
+kind_code kind.Opened = 1
+kind_code kind.Answer = 2
+kind_code kind.Resend = 3
+kind_code kind.Rekey = 4
+kind_code kind.Install = 5
+kind_code kind.Reset = 6
+kind_code kind.Remove = 7
+kind_code kind.Retire = 8
+kind_code kind.Release = 9
+kind_code kind.Close = 10
+kind_code kind.Free = 11
+kind_code kind.Retry = 12
+kind_code kind.Reject = 13
+kind_code kind.Wake = 14

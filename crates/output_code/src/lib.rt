@@ -1,16 +1,15 @@
-// The cases that an output names, and the byte of each.
+// The cases that an output names, and the byte of each: of a case that stands in the order of its codes it is `case as u8`.
 #![tactic(auto)]
 
 pub mod kind;
 
 ghost use Rattle.std.specs.Prelude.{◌≡◌, ◌<◌};
-ghost use Rattle.rules.specs.Base.{one};
 ghost use Rattle.rules.specs.Field.{why_code};
-ghost use Rattle.rules.specs.Output.{build_code, transition_code, source_code, denial_code};
-ghost use Rattle.gates_types.specs.View.{source_of, denial_of};
-ghost use Rattle.output_code.specs.Codes.{why_of, build_of, transition_of};
+ghost use Rattle.rules.specs.Output.{denial_code};
+ghost use Rattle.gates_types.specs.View.{denial_of};
+ghost use Rattle.output_code.specs.Codes.{why_of, DecodesWhy};
 
-use gates_types::{Denial, Refusal, Source};
+use gates_types::{Denial, Refusal};
 
 // Why a held peer goes.
 #[derive(Clone, Copy)]
@@ -25,6 +24,10 @@ pub enum Why {
     Admin,
     Closed,
 }
+
+// A byte that is no reason.
+#[derive(Clone, Copy)]
+pub struct UnknownWhy(pub u8);
 
 // How a session is built.
 #[derive(Clone, Copy)]
@@ -44,81 +47,36 @@ pub enum Transition {
     Roam,
 }
 
-pub fn flag_code(b: bool) -> u8
-    ensures { result ≡ one b }
-{
-    if b { 1 } else { 0 }
-}
+impl TryFrom<u8> for Why {
+    type Error = UnknownWhy;
 
-pub fn why_code(w: Why) -> u8
-    ensures { result ≡ why_code (why_of w) }
-{
-    match w {
-        Why::Restart => 0,
-        Why::Replacement => 1,
-        Why::OwnRestart => 2,
-        Why::Ended => 3,
-        Why::Orphaned => 4,
-        Why::Disconnect => 5,
-        Why::Dead => 6,
-        Why::Admin => 7,
-        Why::Closed => 8,
+    ghost try_from_gives = { DecodesWhy };
+
+    fn try_from(code: u8) -> Result<Self, UnknownWhy> {
+        match code {
+            0 => Ok(Why::Restart),
+            1 => Ok(Why::Replacement),
+            2 => Ok(Why::OwnRestart),
+            3 => Ok(Why::Ended),
+            4 => Ok(Why::Orphaned),
+            5 => Ok(Why::Disconnect),
+            6 => Ok(Why::Dead),
+            7 => Ok(Why::Admin),
+            8 => Ok(Why::Closed),
+            _ => Err(UnknownWhy(code)),
+        }
     }
 }
 
-// The case that a byte names.
+// The case of a byte that is known to name one.
 pub fn why_of(code: u8) -> Why
     requires { code < 9 }
     ensures { why_code (why_of result) ≡ code }
 {
-    match code {
-        0 => Why::Restart,
-        1 => Why::Replacement,
-        2 => Why::OwnRestart,
-        3 => Why::Ended,
-        4 => Why::Orphaned,
-        5 => Why::Disconnect,
-        6 => Why::Dead,
-        7 => Why::Admin,
-        _ => Why::Closed,
-    }
+    Why::try_from(code).unwrap()
 }
 
-pub fn build_code(b: Build) -> u8
-    ensures { result ≡ build_code (build_of b) }
-{
-    match b {
-        Build::Fresh => 0,
-        Build::FromCarry => 1,
-    }
-}
-
-pub fn transition_code(t: Transition) -> u8
-    ensures { result ≡ transition_code (transition_of t) }
-{
-    match t {
-        Transition::Promote => 0,
-        Transition::Replace => 1,
-        Transition::Move => 2,
-        Transition::Keep => 3,
-        Transition::Restarted => 4,
-        Transition::Roam => 5,
-    }
-}
-
-pub fn source_code(s: Source) -> u8
-    ensures { result ≡ source_code (source_of s) }
-{
-    match s {
-        Source::NotHeld => 0,
-        Source::Restart => 1,
-        Source::Replacement => 2,
-        Source::OwnMsg2 => 3,
-        Source::RekeyMsg2 => 4,
-    }
-}
-
-// The reason byte of a Reject: a Gate carries a refusal.
+// The reason byte of a Reject: a match, since a Gate carries a refusal.
 pub fn denial_code(d: Denial) -> u8
     ensures { result ≡ denial_code (denial_of d) }
 {

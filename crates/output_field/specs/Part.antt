@@ -7,8 +7,8 @@ use Rattle.rules.specs.Data.{Pair, Output}
 use Rattle.rules.specs.Field.{digits, pair_bytes, message_bytes, frame}
 use Rattle.rules.specs.Output.{output_kind, output_bytes, output_record}
 use Rattle.lib_laws.specs.Splice.{splice, length_digits, Wrote, wrote_then}
-use Rattle.lib_laws.specs.Buffer.{kept_length}
-use Rattle.node_addr.specs.View.{view_pair, FitPair}
+use Rattle.node_addr.specs.View.{view_pair}
+use Rattle.node_addr.specs.Padded.{view}
 use Rattle.node_addr.specs.declared.Pair as pair
 
 -- ---- parts
@@ -22,10 +22,14 @@ pub header_written : {xs : Bytes} {at : ℕ} {ys : Bytes} {r : ℕ} (kind n : �
 unfolding header
 header_written kind n a = rw (append_assoc (digits 2 (n + 2)) (1 ∷ []) (kind ∷ [])) at a
 
-pub pair_written : {xs : Bytes} {at k : ℕ} {p : pair.Pair} {ys : Bytes} {r : ℕ} → FitPair p
-    → Wrote xs at k (digits 4 p.transport.0 ++ digits 1 p.addr.len ++ take p.addr.len p.addr.bytes) ys r → Wrote xs at k (pair_bytes (view_pair p)) ys r
+-- an address takes as many bytes as it counts
+addr_length : (p : pair.Pair) → length (view p.addr) ≡ p.addr.len
+addr_length p = length-take-le p.addr.len p.addr.bytes (omega (arith, p.addr.small, p.addr.size))
+
+pub pair_written : {xs : Bytes} {at k : ℕ} {ys : Bytes} {r : ℕ} (p : pair.Pair)
+    → Wrote xs at k (digits 4 p.transport.0 ++ digits 1 p.addr.len ++ view p.addr) ys r → Wrote xs at k (pair_bytes (view_pair p)) ys r
 unfolding pair_bytes
-pair_written f a = rw (kept_length f.addr.kept) a
+pair_written p a = rw (addr_length p) a
 
 pub message_written : {xs : Bytes} {at : ℕ} {ys : Bytes} {r : ℕ} (n : ℕ) (m : Bytes)
     → length m ≡ n → Wrote xs at (2 + n) (digits 2 n ++ m) ys r → Wrote xs at (2 + n) (message_bytes m) ys r
@@ -36,8 +40,8 @@ pub length_pair : (p : Pair) → length (pair_bytes p) ≡ 5 + length p.addr
 unfolding pair_bytes
 length_pair p = simp (length-append, length_digits)
 
-pub pair_length : {p : pair.Pair} → FitPair p → length (pair_bytes (view_pair p)) ≡ 5 + p.addr.len
-pair_length {p} f = length_pair (view_pair p) ∙ rw (length-take-le p.addr.len p.addr.bytes (omega (arith, f.addr.kept)))
+pub pair_length : (p : pair.Pair) → length (pair_bytes (view_pair p)) ≡ 5 + p.addr.len
+pair_length p = length_pair (view_pair p) ∙ rw (addr_length p)
 
 -- ---- records
 

@@ -6,33 +6,33 @@ pub mod layout;
 ghost use Rattle.std.specs.Prelude.{◌+◌, ◌≤◌, ◌<◌, length, take, drop};
 ghost use Rattle.rules.specs.Field.{flag_bytes, pair_bytes, message_bytes};
 ghost use Rattle.lib_laws.specs.Splice.{Wrote};
-ghost use Rattle.node_addr.specs.View.{view_pair, FitPair};
+ghost use Rattle.node_addr.specs.View.{view_pair};
+ghost use Rattle.output_code.specs.Codes.{kind_code};
 ghost use Rattle.output_field.specs.Part.{header};
 
 use crate::layout::FRAMED;
 use lib_bytes::layout::{U16, U32};
-use lib_bytes::write::{put_48, put_be, put_byte, put_run};
+use lib_bytes::write::{put_be, put_byte, put_run};
 use node_addr::Pair;
 use node_addr::layout::VERSION;
-use output_code::flag_code;
+use output_code::kind::Kind;
 
 // What stands before n bytes of fields: length (of what follows), version, kind.
-pub fn put_frame(out: &mut [u8], at: usize, n: usize, kind: u8) -> usize
+pub fn put_frame(out: &mut [u8], at: usize, n: usize, kind: Kind) -> usize
     requires n_bound { n + 2 < 65536 }
     requires at_in_bounds { at + 4 ≤ length out.old }
-    ensures { Wrote out.old at 4 (header kind n) out.new result }
+    ensures { Wrote out.old at 4 (header (kind_code kind) n) out.new result }
 {
     let a = put_be(out, at, (n + FRAMED) as u64, U16);
     let b = put_byte(out, a, VERSION);
-    put_byte(out, b, kind)
+    put_byte(out, b, kind as u8)
 }
 
 pub fn put_flag(out: &mut [u8], at: usize, b: bool) -> usize
     requires { at + 1 ≤ length out.old }
     ensures { Wrote out.old at 1 (flag_bytes b) out.new result }
 {
-    let v = flag_code(b);
-    put_byte(out, at, v)
+    put_byte(out, at, u8::from(b))
 }
 
 // A message of n bytes that stands in another slice.
@@ -47,13 +47,10 @@ pub fn put_message(out: &mut [u8], at: usize, src: &[u8], from: usize, n: usize)
 }
 
 pub fn put_pair(out: &mut [u8], at: usize, p: Pair) -> usize
-    requires fit_pair { FitPair p }
-    requires len_in_bounds { at + (5 + p.addr.len) ≤ length out.old }
+    requires { at + (5 + p.addr.len) ≤ length out.old }
     ensures { Wrote out.old at (5 + p.addr.len) (pair_bytes (view_pair p)) out.new result }
 {
-    let b = p.addr.bytes;
-    let n = p.addr.len;
     let t = put_be(out, at, p.transport.0 as u64, U32);
-    let l = put_be(out, t, n as u64, 1);
-    put_48(out, l, b, n)
+    let l = put_be(out, t, p.addr.len as u64, 1);
+    p.addr.put(out, l)
 }

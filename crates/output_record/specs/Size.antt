@@ -1,7 +1,6 @@
 -- How many bytes each output takes.
-use Rattle.std.specs.Prelude.{◌≡◌, refl, List, [], ◌∷◌, ℕ, ◌+◌, length}
+use Rattle.std.specs.Prelude.{◌≡◌, refl, List, [], ◌∷◌, ℕ, ◌+◌, length, None, Some}
 use Rattle.std.proofs.Common.{◌∙◌, arith, length-append}
-use Rattle.std.proofs.Math.Option.{none, some}
 use Rattle.rules.specs.Base.{Bytes, tally}
 use Rattle.rules.specs.Data.{Output, Opened, Resend, Rekey, Install, Reset, Retire, Free, Retry, Reject}
 use Rattle.rules.specs.Field.{message_bytes, frame}
@@ -22,10 +21,10 @@ size_of (Output.Release n s) = 13 + length (pairs_bytes s)
 size_of (Output.Close s) = 5 + length (pairs_bytes s)
 size_of (Free l) = 8
 size_of (Retry p) = 4 + length p
-size_of (Reject none w) = 6
-size_of (Reject (some (p, s)) w) = 7 + length p
-size_of (Output.Wake none) = 5
-size_of (Output.Wake (some t)) = 13
+size_of (Reject None w) = 6
+size_of (Reject (Some (p, s)) w) = 7 + length p
+size_of (Output.Wake None) = 5
+size_of (Output.Wake (Some t)) = 13
 
 length_frame : (kind : ℕ) (fields : Bytes) → length (frame kind fields) ≡ 4 + length fields
 unfolding frame
@@ -45,10 +44,10 @@ length_fields (Output.Release n s) = simp (length-append, length_digits) (omega 
 length_fields (Output.Close s) = simp (length-append, length_digits) (omega arith)
 length_fields (Free l) = simp length_digits (omega arith)
 length_fields (Retry p) = refl
-length_fields (Reject none w) = refl
-length_fields (Reject (some (p, s)) w) = simp length-append (omega arith)
-length_fields (Output.Wake none) = refl
-length_fields (Output.Wake (some t)) = simp length_digits (omega arith)
+length_fields (Reject None w) = refl
+length_fields (Reject (Some (p, s)) w) = simp length-append (omega arith)
+length_fields (Output.Wake None) = refl
+length_fields (Output.Wake (Some t)) = simp length_digits (omega arith)
 
 pub length_output : (o : Output) → length (output_record o) ≡ size_of o
 unfolding output_record

@@ -15,13 +15,13 @@ use lib_bytes::layout::{U32, U64};
 use lib_bytes::read::{get_be, get_byte};
 use lib_bytes::write::{put_be, put_byte};
 use node_addr::NodeAddr;
-use node_addr::place::{load_node, put_node};
+use node_addr::place::{load_fixed, put_fixed};
 
 pub fn load_me(s: &[u8]) -> NodeAddr
     requires { FitHead s.now }
     ensures { result.0 ≡ view_me s.now }
 {
-    load_node(s, ME)
+    load_fixed(s, ME)
 }
 
 pub fn put_me(s: &mut [u8], n: NodeAddr)
@@ -29,7 +29,7 @@ pub fn put_me(s: &mut [u8], n: NodeAddr)
     ensures fit_head { FitHead s.new }
     ensures shows { Shows s.new n.0 (params_of s.old) (view_next s.old) }
 {
-    put_node(s, ME, n);
+    put_fixed(s, ME, n);
 }
 
 pub fn get_next(s: &[u8]) -> u64
@@ -47,6 +47,7 @@ pub fn put_next(s: &mut [u8], n: u64)
     put_be(s, NEXT, n, U64);
 }
 
+// Field by field: a struct has no layout of bytes of its own choosing to be read and written by.
 pub fn load_params(s: &[u8]) -> Params
     requires { FitHead s.now }
     ensures { view_params result ≡ params_of s.now }

@@ -28,22 +28,24 @@ pub struct Params {
     pub pending: u64,
 }
 
-pub fn default() -> Params
-    ensures { view_params result ≡ defaults }
-{
-    Params {
-        unheard: 1000000000,
-        interval: 15000000000,
-        replays: 8,
-        silent: 3,
-        silentbase: 30000000000,
-        silentcap: 600000000000,
-        horizon: 600000000000,
-        counted: 8,
-        handshake: 30000000000,
-        resend: 1000000000,
-        resends: 5,
-        pending: 1000,
+impl Default for Params {
+    fn default() -> Self
+        ensures { view_params result ≡ defaults }
+    {
+        Params {
+            unheard: 1000000000,
+            interval: 15000000000,
+            replays: 8,
+            silent: 3,
+            silentbase: 30000000000,
+            silentcap: 600000000000,
+            horizon: 600000000000,
+            counted: 8,
+            handshake: 30000000000,
+            resend: 1000000000,
+            resends: 5,
+            pending: 1000,
+        }
     }
 }
 
@@ -51,11 +53,5 @@ pub fn default() -> Params
 pub fn in_range(p: Params) -> bool
     ensures { not result ≡ out_of_range (view_params p) }
 {
-    if p.counted == 0 {
-        return false;
-    }
-    if COUNTED_MOST < p.counted {
-        return false;
-    }
-    p.replays <= REPLAYS_MOST
+    p.counted != 0 && p.counted <= COUNTED_MOST && p.replays <= REPLAYS_MOST
 }

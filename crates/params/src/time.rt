@@ -1,5 +1,5 @@
 // Spans and deadlines in nanoseconds.
-ghost use Rattle.std.specs.Prelude.{◌≡◌, ◌-◌, ◌/◌, ◌<◌, min};
+ghost use Rattle.std.specs.Prelude.{◌≡◌, ◌-◌, ◌<◌};
 ghost use Rattle.rules.specs.Base.{option};
 ghost use Rattle.rules.specs.Std.{from_nanos, duration_max, saturating_since, saturating_add, checked_shl, u32_max};
 ghost use Rattle.rules.specs.Time as rule;
@@ -8,22 +8,14 @@ ghost use Rattle.params.specs.Later.{power};
 // The furthest that a deadline reaches: 100 years.
 pub const CEILING: u64 = 3153600000000000000;
 
-// The last reading of the clock.
-const LAST: u64 = u64::MAX;
-
-// Below which exponent a factor is a power of two, and what it is from there on.
+// Below which exponent a factor is a power of two.
 const FACTOR_BITS: u32 = 32;
-
-const FACTOR_MAX: u64 = u32::MAX as u64;
 
 // One more, while it fits.
 pub fn one_more(n: u32) -> u32
     ensures { result ≡ saturating_add n 1 }
 {
-    if n < u32::MAX {
-        return n + 1;
-    }
-    n
+    n.saturating_add(1)
 }
 
 // 1 shifted left by the exponent, and 2^32 - 1 from 32 on.
@@ -38,45 +30,19 @@ pub fn factor(exponent: u32) -> u32
     u32::MAX
 }
 
-// A number divided by the factor: a shift where that is a power of two.
-fn parted(n: u64, exponent: u32) -> u64
-    ensures { result ≡ n / option (checked_shl 1 exponent) u32_max (λ f. f) }
-{
-    if exponent < FACTOR_BITS {
-        return n >> exponent;
-    }
-    n / FACTOR_MAX
-}
-
-// The base times the factor, cut to the cap. The product is computed only where it is within the cap.
+// The base times the factor, cut to the cap.
 pub fn backoff(exponent: u32, base: u64, cap: u64) -> u64
     ensures { from_nanos result ≡ rule.backoff exponent (from_nanos base) (from_nanos cap) }
 {
     let f = factor(exponent) as u64;
-    if parted(cap, exponent) < base {
-        return cap;
-    }
-    base * f
-}
-
-fn least(a: u64, b: u64) -> u64
-    ensures { result ≡ min a b }
-{
-    if b < a {
-        return b;
-    }
-    a
+    base.saturating_mul(f).min(cap)
 }
 
 // The reading after a span of at most the ceiling, and the last reading where that sum does not fit.
 pub fn deadline(now: u64, d: u64) -> u64
     ensures { result ≡ rule.deadline now (from_nanos d) }
 {
-    let step = least(d, CEILING);
-    if LAST - now < step {
-        return LAST;
-    }
-    now + step
+    now.saturating_add(d.min(CEILING))
 }
 
 // When a message is sent again.
@@ -92,10 +58,7 @@ pub fn age(now: u64, was: u64) -> u64
     ensures result_value { from_nanos result ≡ saturating_since now was }
     ensures value { result ≡ now - was }
 {
-    if now < was {
-        return 0;
-    }
-    now - was
+    now.saturating_sub(was)
 }
 
 // Whether a reading is younger than a span.

@@ -1,7 +1,7 @@
 -- What holds of every table that new or a call left: owners, order, limits and widths.
+use Rattle.std.specs.Prelude.{Some}
 use mathlib.Core.Path.{◌≡◌, refl}
 use mathlib.Core.Bool.{Bool, true, false}
-use mathlib.Core.Option.{some}
 use mathlib.Core.List.{List, [], ◌∷◌}
 use Prim.Native.Nat.{ℕ, ◌≤◌, ◌<◌}
 use native.Mathlib.Omega.{arith}
@@ -50,7 +50,7 @@ module _ (x : Timed) where
   unfolding answer answer_leg
   shaped_answer t z r k y = let o = ordered_answer t z false k y.ordered in record { ordered = o; limits = limits_joined t y.limits _ _ z.peer o refl r.0 r.1 }
 
-  shaped_dialed : (t : Table) (p : Bytes) (g : Leg) (epoch : ℕ) (from : Pair) (how : Transition) → leg_at g.link t ≡ some g → g.peer ≡ some p
+  shaped_dialed : (t : Table) (p : Bytes) (g : Leg) (epoch : ℕ) (from : Pair) (how : Transition) → leg_at g.link t ≡ Some g → g.peer ≡ Some p
       → All (λ j. named p j ≡ false) t.held → Good t → Shaped t
       → Shaped (dialed x.now p g epoch from how t).table
   shaped_dialed t p g epoch from how e v n k y = stays y (stays_dialed t k x.now p g epoch from how e v) (ordered_dialed t y.ordered x.now p g epoch from how n)

@@ -1,14 +1,13 @@
 -- What the values of an accepted record keep to, and that it is their spelling.
-use Rattle.std.specs.Prelude.{if◌then◌else◌}
+use Rattle.std.specs.Prelude.{if◌then◌else◌, None, Option, Some, slice_get}
 use mathlib.Core.Path.{◌≡◌, refl, ◌∙◌}
 use mathlib.Core.Bool.{Bool, true, false, ◌&&◌, ◌||◌}
-use mathlib.Core.Option.{Option, none, some}
 use mathlib.Core.List.{[], ◌∷◌, ◌++◌, append_assoc, append-nil}
 use Prim.Native.Nat.{ℕ, ◌+◌, ◌^◌, ◌<◌}
 use native.Mathlib.Omega.{arith}
 use borrow.Author.Tests.{eqb-true, eqb-false, ltb-false}
 use lib.Dec.{eqb, ltb, lit<}
-use lib.ListN.{length, get_elem?, length-append}
+use lib.ListN.{length, length-append}
 use Rattle.rules.specs.Base.{option, Bytes, All}
 use Rattle.rules.specs.Time.{Params, default, out_of_range}
 use Rattle.rules.specs.Data.{Pair, Hello, Call}
@@ -182,10 +181,10 @@ pub record Whole {A : Type 0} (R : ℕ → A → Bytes → Type 0) (x : A) (s : 
   pub means : R kind x body
   pub spelt : s ≡ frame kind body
 
-all_read : {A : Type 0} (o : Option (A × Bytes)) (x : A) → finished o ≡ some x → o ≡ some (x, [])
-all_read none x e = not_some e
-all_read (some (a, [])) x e = let f : a ≡ x = cc in rw f
-all_read (some (a, b ∷ s)) x e = not_some e
+all_read : {A : Type 0} (o : Option (A × Bytes)) (x : A) → finished o ≡ Some x → o ≡ Some (x, [])
+all_read None x e = not_some e
+all_read (Some (a, [])) x e = let f : a ≡ x = cc in rw f
+all_read (Some (a, b ∷ s)) x e = not_some e
 
 module _ {A : Type 0} (fields : ℕ → Reader A) (R : ℕ → A → Bytes → Type 0) (g : (k : ℕ) → Yields (fields k) (R k)) where
   checked : (m n v k : ℕ) → k < 256 → (b c : Bool) → eqb (n + 2) m ≡ b → eqb v 1 ≡ c
@@ -199,7 +198,7 @@ module _ {A : Type 0} (fields : ℕ → Reader A) (R : ℕ → A → Bytes → T
   head_yields m = then_yields (number_reads 2) λ n hn. then_yields (number_reads 1) λ v hv. then_yields (number_reads 1) λ k hk.
       checked m n v k hk (eqb (n + 2) m) (eqb v 1) refl refl
 
-  pub whole : (s : Bytes) (x : A) → All IsByte s → framed fields s ≡ some x → Whole R x s
+  pub whole : (s : Bytes) (x : A) → All IsByte s → framed fields s ≡ Some x → Whole R x s
   unfolding framed frame
   whole s x h e = go ((head_yields (length s)).used s x [] h (all_read _ x e))
     where
@@ -221,18 +220,18 @@ pub record Said (k : ℕ) (x : Timed) (u : Bytes) : Type 0 where
 
 timed_yields : (k : ℕ) → Yields (timed k) (Said k)
 unfolding timed
-timed_yields k = then_yields (number_reads 8) λ now h. bind_yields (kind_yields (get_elem? kinds k) refl) λ c u q.
+timed_yields k = then_yields (number_reads 8) λ now h. bind_yields (kind_yields (slice_get kinds k) refl) λ c u q.
     give_yields (record { fits = record { now = h; call = q.fits }; kind = q.kind; spelt = rw (append-nil u, q.spelt) })
   where
-    kind_yields : (o : Option (Reader Call)) → get_elem? kinds k ≡ o → Yields (option o fail λ f. f) (Kind k)
-    kind_yields none e = fail_yields
-    kind_yields (some q) e = each_at all_kinds k q e
+    kind_yields : (o : Option (Reader Call)) → slice_get kinds k ≡ o → Yields (option o fail λ f. f) (Kind k)
+    kind_yields None e = fail_yields
+    kind_yields (Some q) e = each_at all_kinds k q e
 
-pub said : (s : Bytes) (x : Timed) → All IsByte s → read_call s ≡ some x → Whole Said x s
+pub said : (s : Bytes) (x : Timed) → All IsByte s → read_call s ≡ Some x → Whole Said x s
 unfolding read_call
 said = whole timed Said timed_yields
 
-pub accepted_fits : (s : Bytes) (x : Timed) → All IsByte s → read_call s ≡ some x → TimedFits x
+pub accepted_fits : (s : Bytes) (x : Timed) → All IsByte s → read_call s ≡ Some x → TimedFits x
 accepted_fits s x h e = (said s x h e).means.fits
 
 -- ---- new
@@ -283,8 +282,8 @@ pub record Formed (c : Params) (u : Bytes) : Type 0 where
   pub spelt : u ≡ form_bytes given
 
 pub meant_fits : (f : Option Params) → IfAny SettingsFit f → SettingsFit (meant f)
-meant_fits none h = default_fits
-meant_fits (some c) h = h
+meant_fits None h = default_fits
+meant_fits (Some c) h = h
 
 -- form k reads the settings after its byte
 abbrev ReadsForm : ℕ → Reader Params → Type 0
@@ -292,10 +291,10 @@ ReadsForm k q = Yields q (λ c v. Formed c (k ∷ v))
 
 all_forms : Each ReadsForm 0 (give default ∷ settings ∷ [])
 unfolding form_bytes
-all_forms = none_given & last_yields settings_reads (λ c h. record { given = some c; value = refl; fits = h; spelt = refl }) & no_more
+all_forms = none_given & last_yields settings_reads (λ c h. record { given = Some c; value = refl; fits = h; spelt = refl }) & no_more
   where
     none_given : ReadsForm 0 (give default)
-    none_given = give_yields (record { given = none; value = refl; fits = tt; spelt = refl })
+    none_given = give_yields (record { given = None; value = refl; fits = tt; spelt = refl })
 
 form_yields : Yields form Formed
 unfolding form
@@ -324,11 +323,11 @@ begin_yields k = go (eqb k 17) refl
           spelt = rw q.spelt (simp (append_assoc, append-nil));
         })
 
-pub begun : (s : Bytes) (b : Begin) → All IsByte s → read_new s ≡ some b → Whole Begun b s
+pub begun : (s : Bytes) (b : Begin) → All IsByte s → read_new s ≡ Some b → Whole Begun b s
 unfolding read_new
 begun = whole begin Begun begin_yields
 
-pub begun_fits : (s : Bytes) (b : Begin) → All IsByte s → read_new s ≡ some b → BeginFits b
+pub begun_fits : (s : Bytes) (b : Begin) → All IsByte s → read_new s ≡ Some b → BeginFits b
 begun_fits s b h e = (begun s b h e).means.fits
 
 neither : (x y : Bool) → x || y ≡ false → (x ≡ false) × (y ≡ false)

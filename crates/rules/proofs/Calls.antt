@@ -1,8 +1,7 @@
 -- Each call keeps the invariant and the leases, and closes nothing in use.
-use Rattle.std.specs.Prelude.{if◌then◌else◌}
+use Rattle.std.specs.Prelude.{if◌then◌else◌, None, Option, Some}
 use mathlib.Core.Path.{◌≡◌, refl, ap}
 use mathlib.Core.Bool.{Bool, true, false, not, ◌&&◌, ◌||◌}
-use mathlib.Core.Option.{Option, none, some}
 use mathlib.Core.List.{List, [], ◌∷◌, map}
 use mathlib.Core.Logic.{◌⊎◌, inl, inr}
 use Prim.Native.Nat.{ℕ, ◌+◌, ◌-◌, ◌^◌, ◌≤◌}
@@ -110,7 +109,7 @@ fine_answer now x b t k = fine_joined t _ _ refl refl k _ (λ l. refl, refl)
 
 -- ---- a leg ends, a holder goes
 
-pub fine_ends : (g : Leg) (t : Table) → leg_at g.link t ≡ some g → Good t → Fine t nothing (ends g t)
+pub fine_ends : (g : Leg) (t : Table) → leg_at g.link t ≡ Some g → Good t → Fine t nothing (ends g t)
 unfolding ends
 fine_ends g t e k =
     let gone = records_retired g.link t.links (leg_record t g.link g e k) in
@@ -127,7 +126,7 @@ fine_abandon n t k = option_by (Fine t nothing) (leg_at n t) (λ e. fine_still t
 plain_retry : (p : Bytes) (b : Bool) → All Plain (if b then Retry p ∷ [] else [])
 plain_retry p b = if_by (All Plain) b (λ e. ((λ l. refl, refl), tt)) (λ e. tt)
 
-pub fine_removed : (now : ℕ) (p : Bytes) (why : Why) (h : Held) (t : Table) → held_at p t ≡ some h → Good t → Fine t nothing (removed now p why h t)
+pub fine_removed : (now : ℕ) (p : Bytes) (why : Why) (h : Held) (t : Table) → held_at p t ≡ Some h → Good t → Fine t nothing (removed now p why h t)
 unfolding removed
 fine_removed now p why h t e k =
     let gone = records_retired h.link t.links (held_record t p h e k) in
@@ -174,7 +173,7 @@ unfolding admitted stamp
 fair_admitted now s x t k = option_by (Fair t (λ l. one (eqb l x.lease))) (held_at x.peer t)
     (λ e. fair_entering x.peer t _ _ k (fine_answer now x false t k)) (λ h e. over h e)
   where
-    over : (h : Held) → held_at x.peer t ≡ some h → Fine t (λ l. one (eqb l x.lease)) (removed now x.peer (displaces s) h (stamp now h t) ▸ answer now x true)
+    over : (h : Held) → held_at x.peer t ≡ Some h → Fine t (λ l. one (eqb l x.lease)) (removed now x.peer (displaces s) h (stamp now h t) ▸ answer now x true)
     over h e =
         let u : Table = stamp now h t in
         let a = fine_removed now x.peer (displaces s) h u e (good_stamp now h t k) in
@@ -211,7 +210,7 @@ fine_legs t test f a b k = record {
 }
 
 -- the leg becomes a holder on its link; any gates
-fine_installs : (t : Table) (g : Leg) (h : Held) (i : Installed) (how : Transition) (m : List Memory) → h.link ≡ g.link → i.lease ≡ g.lease → leg_at g.link t ≡ some g → Good t
+fine_installs : (t : Table) (g : Leg) (h : Held) (i : Installed) (how : Transition) (m : List Memory) → h.link ≡ g.link → i.lease ≡ g.lease → leg_at g.link t ≡ Some g → Good t
     → Fine t nothing (writes (Install i ∷ Reset h.peer how ∷ []) (with_gates m (installs g h t)))
 fine_installs t g h i how m a b e k =
     let s : List LinkRec = t.links in
@@ -238,11 +237,11 @@ fine_unsent n t k = fine_legs t (on_link n) mark_unsent (λ j. refl) (λ j. refl
 
 -- ---- 8 msg2
 
-fine_dialed : (now : ℕ) (p : Bytes) (g : Leg) (epoch : ℕ) (from : Pair) (how : Transition) (t : Table) → leg_at g.link t ≡ some g → Good t → Fine t nothing (dialed now p g epoch from how t)
+fine_dialed : (now : ℕ) (p : Bytes) (g : Leg) (epoch : ℕ) (from : Pair) (how : Transition) (t : Table) → leg_at g.link t ≡ Some g → Good t → Fine t nothing (dialed now p g epoch from how t)
 unfolding dialed
 fine_dialed now p g epoch from how t e k = fine_installs t g _ _ how t.gates refl refl e k
 
-fine_moveto : (p : Bytes) (g : Leg) (h : Held) (from : Pair) (t : Table) → leg_at g.link t ≡ some g → held_at p t ≡ some h → Good t → Fine t nothing (moveto p g h from t)
+fine_moveto : (p : Bytes) (g : Leg) (h : Held) (from : Pair) (t : Table) → leg_at g.link t ≡ Some g → held_at p t ≡ Some h → Good t → Fine t nothing (moveto p g h from t)
 unfolding moveto
 fine_moveto p g h from t e w k =
     let s : List LinkRec = hold g.link (APeer p) t.links in
@@ -257,7 +256,7 @@ fine_moveto p g h from t e w k =
     }
 
 -- a leg is there still once a holder is gone
-pub leg_stays : (now : ℕ) (p : Bytes) (why : Why) (h : Held) (t : Table) (g : Leg) → leg_at g.link t ≡ some g → leg_at g.link (removed now p why h t).table ≡ some g
+pub leg_stays : (now : ℕ) (p : Bytes) (why : Why) (h : Held) (t : Table) (g : Leg) → leg_at g.link t ≡ Some g → leg_at g.link (removed now p why h t).table ≡ Some g
 unfolding removed
 leg_stays now p why h t g e = e
 
@@ -272,13 +271,13 @@ fine_msg2 now n epoch from t k = option_by P (leg_at n t) (λ e. fine_still t k)
     P : Step → Type 0
     P = Fine t nothing
 
-    anew : (g : Leg) → leg_at g.link t ≡ some g → (p : Bytes) (h : Held) → held_at p t ≡ some h → P (removed now p Why.OwnRestart h t ▸ dialed now p g epoch from Replace)
+    anew : (g : Leg) → leg_at g.link t ≡ Some g → (p : Bytes) (h : Held) → held_at p t ≡ Some h → P (removed now p Why.OwnRestart h t ▸ dialed now p g epoch from Replace)
     anew g e p h w =
         let a = fine_removed now p Why.OwnRestart h t w k in
         let b = fine_dialed now p g epoch from Replace (removed now p Why.OwnRestart h t).table (leg_stays now p Why.OwnRestart h t g e) a.good in
         both (dialed now p g epoch from Replace) a b (unused_removed now p Why.OwnRestart h t _ refl)
 
-    kept : (g : Leg) → leg_at g.link t ≡ some g → (p : Bytes) → P (ends g t ▸ writes (Reset p Keep ∷ []))
+    kept : (g : Leg) → leg_at g.link t ≡ Some g → (p : Bytes) → P (ends g t ▸ writes (Reset p Keep ∷ []))
     kept g e p =
         let a = fine_ends g t e k in
         both (writes (Reset p Keep ∷ [])) a (fine_says (ends g t).table (Reset p Keep) (λ l. refl, refl) a.good) a.unused
@@ -464,6 +463,6 @@ fair_call x t k = if_by P (ltb x.buffer 10_240) (λ e. fine_still t k) (λ e. re
     P : Result → Type 0
     P = Fair t (λ l. is_lease l (lease_in x))
 
-    read : (o : Option Timed) → Fair t (λ l. is_lease l (option o none λ c. lease_of c.call)) (option o (refuse 3 t) λ c. step c.now c.call t)
-    read none = fine_still t k
-    read (some c) = fair_step c.now c.call t k
+    read : (o : Option Timed) → Fair t (λ l. is_lease l (option o None λ c. lease_of c.call)) (option o (refuse 3 t) λ c. step c.now c.call t)
+    read None = fine_still t k
+    read (Some c) = fair_step c.now c.call t k

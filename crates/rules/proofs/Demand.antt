@@ -1,7 +1,7 @@
 -- Demand 3, for every list of records from an accepted record of new.
+use Rattle.std.specs.Prelude.{Some}
 use mathlib.Core.Path.{◌≡◌, refl, subst}
 use mathlib.Core.Bool.{false}
-use mathlib.Core.Option.{some}
 use mathlib.Core.List.{List, [], ◌∷◌}
 use Prim.Native.Nat.{ℕ, ◌+◌}
 use native.Mathlib.Omega.{arith}
@@ -20,7 +20,7 @@ use Rattle.rules.proofs.Calls.{fair_call}
 
 -- a table that was made is new, by a record that was read and is in range
 pub made : (P : Table → Type 0) (r : Bytes) (t : Table) → new r ≡ Made t
-    → ((b : Begin) → read_new r ≡ some b → out_of_range b.params ≡ false → P (new_table b.me b.first b.params)) → P t
+    → ((b : Begin) → read_new r ≡ Some b → out_of_range b.params ≡ false → P (new_table b.me b.first b.params)) → P t
 unfolding new
 made P r t e f = option_by Q (read_new r) (λ z w. never 3 w)
     (λ b z. if_by Q (out_of_range b.params) (λ q w. never 1 w)

@@ -1,8 +1,7 @@
 -- What a field's reader accepts fits its width and is the only spelling of it, and what is spelt reads back.
-use Rattle.std.specs.Prelude.{if◌then◌else◌}
+use Rattle.std.specs.Prelude.{if◌then◌else◌, None, Option, Some, slice_get}
 use mathlib.Core.Path.{◌≡◌, refl, sym, ap, subst, ◌∙◌}
 use mathlib.Core.Bool.{Bool, true, false}
-use mathlib.Core.Option.{Option, none, some}
 use mathlib.Core.List.{List, [], ◌∷◌, ◌++◌, append_assoc, append-nil}
 use Prim.Native.Nat.{ℕ, zero, suc, ◌+◌, ◌*◌, ◌/◌, ◌%◌, ◌^◌, ◌<◌}
 use native.Mathlib.Nat.{pow-suc, div-lt_iff_lt-mul}
@@ -11,7 +10,7 @@ use borrow.Author.Tests.{leb-true, le-leb}
 use lib.Arith.{digits_lt}
 use lib.Dec.{leb, lit<}
 use lib.Seq.{take_at, drop_at, length-take-le}
-use lib.ListN.{length, take, drop, get_elem?, length-append, take-append-drop}
+use lib.ListN.{length, take, drop, length-append, take-append-drop}
 use Rattle.rules.specs.Base.{option, one, Bytes, All}
 use Rattle.rules.specs.Data.{Live, Acked, Probing, Why, Ended, Orphaned, Disconnect, Dead, Admin, Closed, OwnRestart}
 use Rattle.rules.specs.Field.{Reader, give, fail, bind, more, digits, bytes, number, up_to, code, flags, flag, whys, states, why_code, state_code, pair, message, pair_bytes, message_bytes}
@@ -26,8 +25,8 @@ pub record Taken {A : Type 0} (P : A → Type 0) (w : A → Bytes) (s : Bytes) (
   pub rest : All IsByte r
 
 pub record Reads {A : Type 0} (p : Reader A) (P : A → Type 0) (w : A → Bytes) : Type 0 where
-  pub takes : (s : Bytes) (a : A) (r : Bytes) → All IsByte s → p s ≡ some (a, r) → Taken P w s a r
-  pub back : (a : A) (r : Bytes) → P a → p (w a ++ r) ≡ some (a, r)
+  pub takes : (s : Bytes) (a : A) (r : Bytes) → All IsByte s → p s ≡ Some (a, r) → Taken P w s a r
+  pub back : (a : A) (r : Bytes) → P a → p (w a ++ r) ≡ Some (a, r)
 
 -- what q reads, it reads from bytes u that R relates to the value
 pub record Used {B : Type 0} (R : B → Bytes → Type 0) (s : Bytes) (b : B) (r : Bytes) : Type 0 where
@@ -37,15 +36,15 @@ pub record Used {B : Type 0} (R : B → Bytes → Type 0) (s : Bytes) (b : B) (r
   pub rest : All IsByte r
 
 pub record Yields {B : Type 0} (q : Reader B) (R : B → Bytes → Type 0) : Type 0 where
-  pub used : (s : Bytes) (b : B) (r : Bytes) → All IsByte s → q s ≡ some (b, r) → Used R s b r
+  pub used : (s : Bytes) (b : B) (r : Bytes) → All IsByte s → q s ≡ Some (b, r) → Used R s b r
 
 -- q reads b from u, whatever follows
 pub record Speaks {B : Type 0} (q : Reader B) (u : Bytes) (b : B) : Type 0 where
-  pub said : (r : Bytes) → q (u ++ r) ≡ some (b, r)
+  pub said : (r : Bytes) → q (u ++ r) ≡ Some (b, r)
 
 -- ---- sequences
 
-pub not_some : {A C : Type 0} {a : A} → none ≡ some a → C
+pub not_some : {A C : Type 0} {a : A} → None ≡ Some a → C
 not_some e = absurd (let z : ◌≡◌ {A = ℕ} 0 1 = cc in omega arith)
 
 module _ {B : Type 0} where
@@ -73,19 +72,19 @@ module _ {B : Type 0} where
 pub record Bound {A B : Type 0} (p : Reader A) (k : A → Reader B) (s : Bytes) (x : B × Bytes) : Type 0 where
   pub value : A
   pub left : Bytes
-  pub first : p s ≡ some (value, left)
-  pub second : k value left ≡ some x
+  pub first : p s ≡ Some (value, left)
+  pub second : k value left ≡ Some x
 
 module _ {A B : Type 0} (p : Reader A) (k : A → Reader B) where
-  pub bound : (s : Bytes) (x : B × Bytes) → bind p k s ≡ some x → Bound p k s x
+  pub bound : (s : Bytes) (x : B × Bytes) → bind p k s ≡ Some x → Bound p k s x
   unfolding bind
   bound s x e = go (p s) refl e
     where
-      go : (o : Option (A × Bytes)) → p s ≡ o → option o none (λ r. k r.0 r.1) ≡ some x → Bound p k s x
-      go none f h = not_some h
-      go (some y) f h = record { value = y.0; left = y.1; first = f; second = h }
+      go : (o : Option (A × Bytes)) → p s ≡ o → option o None (λ r. k r.0 r.1) ≡ Some x → Bound p k s x
+      go None f h = not_some h
+      go (Some y) f h = record { value = y.0; left = y.1; first = f; second = h }
 
-  pub bind_at : (s : Bytes) (a : A) (r : Bytes) → p s ≡ some (a, r) → bind p k s ≡ k a r
+  pub bind_at : (s : Bytes) (a : A) (r : Bytes) → p s ≡ Some (a, r) → bind p k s ≡ k a r
   unfolding bind
   bind_at s a r e = rw e
 
@@ -173,12 +172,12 @@ record Cut {A : Type 0} (f : Bytes → A) (n : ℕ) (s : Bytes) (a : A) (r : Byt
 
 module _ {A : Type 0} (f : Bytes → A) (n : ℕ) where
   abbrev cut_if : Bool → Bytes → Option (A × Bytes)
-  cut_if b s = if b then some (f (take n s), drop n s) else none
+  cut_if b s = if b then Some (f (take n s), drop n s) else None
 
-  cut : (s : Bytes) (a : A) (r : Bytes) → All IsByte s → cut_if (leb n (length s)) s ≡ some (a, r) → Cut f n s a r
+  cut : (s : Bytes) (a : A) (r : Bytes) → All IsByte s → cut_if (leb n (length s)) s ≡ Some (a, r) → Cut f n s a r
   cut s a r h e = go (leb n (length s)) refl e
     where
-      go : (b : Bool) → leb n (length s) ≡ b → cut_if b s ≡ some (a, r) → Cut f n s a r
+      go : (b : Bool) → leb n (length s) ≡ b → cut_if b s ≡ Some (a, r) → Cut f n s a r
       go false c e = not_some e
       go true c e =
           let z : ◌≡◌ {A = A × Bytes} (f (take n s), drop n s) (a, r) = cc in
@@ -192,7 +191,7 @@ module _ {A : Type 0} (f : Bytes → A) (n : ℕ) where
             rest = rw d at k.1;
           }
 
-  cut_back : (s r : Bytes) → length s ≡ n → cut_if (leb n (length (s ++ r))) (s ++ r) ≡ some (f s, r)
+  cut_back : (s r : Bytes) → length s ≡ n → cut_if (leb n (length (s ++ r))) (s ++ r) ≡ Some (f s, r)
   cut_back s r e = rw (le-leb n (length (s ++ r)) (simp length-append (omega arith)), take_at s r n e, drop_at s r n e)
 
 pub bytes_reads : (n : ℕ) → Reads (bytes n) (Exactly n) (λ s. s)
@@ -235,7 +234,7 @@ up_to_reads limit n = record {
   back = λ a r h. rw (le-leb n limit (omega (arith, h.told, h.fits.size))) ((bytes_reads n).back a r (record { size = h.told; each = h.fits.each }));
 }
   where
-    go : (s a r : Bytes) → All IsByte s → (b : Bool) → leb n limit ≡ b → (if b then bytes n s else none) ≡ some (a, r) → Taken (Sized limit n) (λ x. x) s a r
+    go : (s a r : Bytes) → All IsByte s → (b : Bool) → leb n limit ≡ b → (if b then bytes n s else None) ≡ Some (a, r) → Taken (Sized limit n) (λ x. x) s a r
     go s a r h false c e = not_some e
     go s a r h true c e =
         let t = (bytes_reads n).takes s a r h e in
@@ -249,8 +248,8 @@ up_to_reads limit n = record {
 
 -- the place of each value in the table of what a code byte may say
 pub record Codes {A : Type 0} (meanings : List A) (code_of : A → ℕ) : Type 0 where
-  pub there : (a : A) → get_elem? meanings (code_of a) ≡ some a
-  pub only : (k : ℕ) (a : A) → get_elem? meanings k ≡ some a → k ≡ code_of a
+  pub there : (a : A) → slice_get meanings (code_of a) ≡ Some a
+  pub only : (k : ℕ) (a : A) → slice_get meanings k ≡ Some a → k ≡ code_of a
   pub small : (a : A) → code_of a < 256
 
 -- what holds of each element and its place, counted from i
@@ -259,7 +258,7 @@ pub data Each {A : Type 0} (P : ℕ → A → Type 0) : ℕ → List A → Type 
   no_more : {i : ℕ} → Each P i []
   ◌&◌ : {i : ℕ} {a : A} {s : List A} → P i a → Each P (suc i) s → Each P i (a ∷ s)
 
-each_from : {A : Type 0} {P : ℕ → A → Type 0} {i : ℕ} {s : List A} (k : ℕ) (a : A) → Each P i s → get_elem? s k ≡ some a → P (i + k) a
+each_from : {A : Type 0} {P : ℕ → A → Type 0} {i : ℕ} {s : List A} (k : ℕ) (a : A) → Each P i s → slice_get s k ≡ Some a → P (i + k) a
 each_from k a no_more e = not_some e
 each_from {P = P} {i = i} zero a (h & t) e =
     let g : i ≡ i + 0 = omega arith in
@@ -268,7 +267,7 @@ each_from {i = i} (suc k) a (h & t) e =
     let g : suc i + k ≡ i + suc k = omega arith in
     rw g at (each_from k a t e)
 
-pub each_at : {A : Type 0} {P : ℕ → A → Type 0} {s : List A} → Each P 0 s → (k : ℕ) (a : A) → get_elem? s k ≡ some a → P k a
+pub each_at : {A : Type 0} {P : ℕ → A → Type 0} {s : List A} → Each P 0 s → (k : ℕ) (a : A) → slice_get s k ≡ Some a → P k a
 each_at h k a e = let z : 0 + k ≡ k = omega arith in rw z at (each_from k a h e)
 
 pub digit : (v : ℕ) → v < 256 → digits 1 v ≡ v ∷ []
@@ -286,19 +285,19 @@ both_ways {A} {p} {P} {w} y k = record { takes = λ s a r h e. go s a r (y.used 
 -- u is the code byte of a
 pub record At {A : Type 0} (meanings : List A) (a : A) (u : Bytes) : Type 0 where
   pub place : ℕ
-  pub there : get_elem? meanings place ≡ some a
+  pub there : slice_get meanings place ≡ Some a
   pub spelt : u ≡ place ∷ []
 
 module _ {A : Type 0} (meanings : List A) where
   pub code_yields : Yields (code meanings) (At meanings)
   unfolding code
-  code_yields = then_yields (number_reads 1) λ k h. yields k h (get_elem? meanings k) refl
+  code_yields = then_yields (number_reads 1) λ k h. yields k h (slice_get meanings k) refl
     where
-      yields : (k : ℕ) → k < 256 → (o : Option A) → get_elem? meanings k ≡ o → Yields (λ s. option o none λ a. some (a, s)) (λ a u. At meanings a (digits 1 k ++ u))
-      yields k h none e = fail_yields
-      yields k h (some a) e = give_yields (record { place = k; there = e; spelt = rw (digit k h) })
+      yields : (k : ℕ) → k < 256 → (o : Option A) → slice_get meanings k ≡ o → Yields (λ s. option o None λ a. Some (a, s)) (λ a u. At meanings a (digits 1 k ++ u))
+      yields k h None e = fail_yields
+      yields k h (Some a) e = give_yields (record { place = k; there = e; spelt = rw (digit k h) })
 
-  pub code_speaks : (k : ℕ) (a : A) → k < 256 → get_elem? meanings k ≡ some a → Speaks (code meanings) (k ∷ []) a
+  pub code_speaks : (k : ℕ) (a : A) → k < 256 → slice_get meanings k ≡ Some a → Speaks (code meanings) (k ∷ []) a
   unfolding code
   code_speaks k a h e = so_speaks (then_speaks (number_reads 1) _ {v = []} h (record { said = λ r. rw e })) (rw (digit k h))
 
@@ -311,14 +310,14 @@ module _ {A : Type 0} (meanings : List A) where
 
 pub flag_codes : Codes flags one
 flag_codes = record {
-  there = λ b. elim b as (λ k. get_elem? flags (one k) ≡ some k) [ true ↦ refl | false ↦ refl ];
+  there = λ b. elim b as (λ k. slice_get flags (one k) ≡ Some k) [ true ↦ refl | false ↦ refl ];
   only = each_at (refl & refl & no_more);
   small = λ b. elim b as (λ k. one k < 256) [ true ↦ lit< tt | false ↦ lit< tt ];
 }
 
 pub state_codes : Codes states state_code
 state_codes = record {
-  there = λ v. elim v as (λ k. get_elem? states (state_code k) ≡ some k) [ Live ↦ refl | Acked ↦ refl | Probing ↦ refl ];
+  there = λ v. elim v as (λ k. slice_get states (state_code k) ≡ Some k) [ Live ↦ refl | Acked ↦ refl | Probing ↦ refl ];
   only = each_at (refl & refl & refl & no_more);
   small = λ v. elim v as (λ k. state_code k < 256) [ Live ↦ lit< tt | Acked ↦ lit< tt | Probing ↦ lit< tt ];
 }
@@ -326,8 +325,8 @@ state_codes = record {
 pub why_codes : Codes whys why_code
 why_codes = record { there = there; only = each_at (refl & refl & refl & refl & refl & refl & refl & refl & refl & no_more); small = small }
   where
-    there : (w : Why) → get_elem? whys (why_code w) ≡ some w
-    there w = elim w as (λ k. get_elem? whys (why_code k) ≡ some k) [
+    there : (w : Why) → slice_get whys (why_code w) ≡ Some w
+    there w = elim w as (λ k. slice_get whys (why_code k) ≡ Some k) [
       | Why.Restart ↦ refl
       | Why.Replacement ↦ refl
       | OwnRestart ↦ refl

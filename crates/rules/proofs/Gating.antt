@@ -1,8 +1,7 @@
 -- What the gates keep of a peer stays within its widths and limits.
-use Rattle.std.specs.Prelude.{if◌then◌else◌}
+use Rattle.std.specs.Prelude.{if◌then◌else◌, None, Option, Some}
 use mathlib.Core.Path.{◌≡◌, refl}
 use mathlib.Core.Bool.{false, ◌||◌}
-use mathlib.Core.Option.{Option, none, some}
 use mathlib.Core.List.{List, [], ◌∷◌, ◌++◌, tail}
 use Prim.Native.Nat.{ℕ, ◌+◌, ◌-◌, ◌^◌, ◌≤◌, ◌<◌}
 use native.Mathlib.Omega.{arith}
@@ -91,27 +90,27 @@ promoted_sizes c now e m w f x =
 module _ (c : Params) (now : ℕ) (w : Word now) (k : ParamsFit c) where
   counting_fits : (epoch : Option ℕ) (s : Option Silence) → IfAny Word epoch → IfAny (SilenceFits c) s → SilenceFits c (counting c now epoch s)
   unfolding counting
-  counting_fits epoch none f x = record { epoch = f; count = omega arith; last = w; until = tt; limit = omega arith; counted = tt }
-  counting_fits epoch (some r) f x = if_by (SilenceFits c) (expired c now r || differ r.epoch epoch)
+  counting_fits epoch None f x = record { epoch = f; count = omega arith; last = w; until = tt; limit = omega arith; counted = tt }
+  counting_fits epoch (Some r) f x = if_by (SilenceFits c) (expired c now r || differ r.epoch epoch)
       (λ z. record { epoch = f; count = omega arith; last = w; until = tt; limit = omega arith; counted = tt })
       (λ z. record { epoch = either r.epoch x.epoch; count = x.count; last = x.last; until = x.until; limit = x.limit; counted = x.counted })
     where
       either : (o : Option ℕ) → IfAny Word o → IfAny Word (or_else o epoch)
-      either none h = f
-      either (some n) h = h
+      either None h = f
+      either (Some n) h = h
 
   -- at the limit the oldest gives way: refusal 1 keeps the limit at 1 or more
   counted_limit : (o : Option Bytes) (s : List Bytes) → length s ≤ c.counted → length (counted_with c o s) ≤ c.counted
   unfolding counted_with
-  counted_limit none s h = h
-  counted_limit (some e) s h = if_by (λ (u : List Bytes). length (u ++ (e ∷ [])) ≤ c.counted) (eqb (length s) c.counted)
+  counted_limit None s h = h
+  counted_limit (Some e) s h = if_by (λ (u : List Bytes). length (u ++ (e ∷ [])) ≤ c.counted) (eqb (length s) c.counted)
       (λ z. omega (arith, length_snoc (tail s) e, length_tail s, eqb_sound (length s) c.counted z, k.some_counted))
       (λ z. omega (arith, length_snoc s e, eqb-false (length s) c.counted z))
 
   counted_fits : (o : Option Bytes) (s : List Bytes) → IfAny (Exactly 32) o → All (Exactly 32) s → All (Exactly 32) (counted_with c o s)
   unfolding counted_with
-  counted_fits none s f h = h
-  counted_fits (some e) s f h = all_append (Exactly 32) (if eqb (length s) c.counted then tail s else s) (e ∷ [])
+  counted_fits None s f h = h
+  counted_fits (Some e) s f h = all_append (Exactly 32) (if eqb (length s) c.counted then tail s else s) (e ∷ [])
       (if_by (All (Exactly 32)) (eqb (length s) c.counted) (λ z. all_tail (Exactly 32) s h) (λ z. h)) (f, tt)
 
   silenced_fits : (o : Option Bytes) (r : Silence) → IfAny (Exactly 32) o → SilenceFits c r → SilenceFits c (silenced c now o r)

@@ -1,8 +1,7 @@
 -- The invariant, what a call keeps, and how two steps come together.
-use Rattle.std.specs.Prelude.{if◌then◌else◌}
+use Rattle.std.specs.Prelude.{if◌then◌else◌, Some}
 use mathlib.Core.Path.{◌≡◌, refl, ap, subst}
 use mathlib.Core.Bool.{Bool, true, false, not}
-use mathlib.Core.Option.{some}
 use mathlib.Core.List.{List}
 use Prim.Native.Nat.{ℕ, ◌+◌, ◌≤◌}
 use native.Mathlib.Omega.{arith}
@@ -106,13 +105,13 @@ records_retired n s h m =
 
 -- ---- legs and holders that go
 
-module _ (t : Table) (n : ℕ) (g : Leg) (e : leg_at n t ≡ some g) where
+module _ (t : Table) (n : ℕ) (g : Leg) (e : leg_at n t ≡ Some g) where
   pub leg_link : n ≡ g.link
   leg_link = eqb_sound n g.link (find_test (on_link n) t.legs g e)
 
   -- a leg is found again at its own link
-  pub own_link : leg_at g.link t ≡ some g
-  own_link = subst (λ (m : ℕ). leg_at m t ≡ some g) leg_link e
+  pub own_link : leg_at g.link t ≡ Some g
+  own_link = subst (λ (m : ℕ). leg_at m t ≡ Some g) leg_link e
 
   pub legs_less : (m : ℕ) → tally (λ k. one (on_link m k)) (without (on_link n) t.legs) + one (eqb m n) ≡ legs_on m t
   legs_less m = rw (← leg_link) at (tally_without (on_link n) (λ k. one (on_link m k)) t.legs g e)
@@ -124,7 +123,7 @@ module _ (t : Table) (n : ℕ) (g : Leg) (e : leg_at n t ≡ some g) where
   pub leg_record : Good t → 1 ≤ records_on n t
   leg_record k = omega (arith, k.owned.one_owner n, legs_less n, ap one (eqb_same n))
 
-module _ (t : Table) (p : Bytes) (h : Held) (e : held_at p t ≡ some h) where
+module _ (t : Table) (p : Bytes) (h : Held) (e : held_at p t ≡ Some h) where
   pub held_less : (m : ℕ) → tally (λ k. one (eqb m k.link)) (without (named p) t.held) + one (eqb m h.link) ≡ held_on m t
   held_less m = tally_without (named p) (λ k. one (eqb m k.link)) t.held h e
 

@@ -1,7 +1,7 @@
 -- A record's holder says Leg exactly if a leg has its link.
+use Rattle.std.specs.Prelude.{Some}
 use mathlib.Core.Path.{◌≡◌, refl, ap}
 use mathlib.Core.Bool.{Bool, true, false, ◌&&◌, and-true, and-false}
-use mathlib.Core.Option.{some}
 use mathlib.Core.List.{List, [], ◌∷◌, map}
 use Prim.Native.Nat.{ℕ, ◌+◌, ◌≤◌}
 use native.Mathlib.Omega.{arith}
@@ -43,7 +43,7 @@ leggeds_le n s = tally_le (legged n) (λ r. one (numbered n r)) (λ r. and_le (n
 
 -- ---- the first record of a number
 
-module _ (n : ℕ) (s : List LinkRec) (r : LinkRec) (e : find (numbered n) s ≡ some r) where
+module _ (n : ℕ) (s : List LinkRec) (r : LinkRec) (e : find (numbered n) s ≡ Some r) where
   no_is : n ≡ r.no
   no_is = eqb_sound n r.no (find_test (numbered n) s r e)
 
@@ -89,14 +89,14 @@ module _ (n : ℕ) (s : List LinkRec) (r : LinkRec) (e : find (numbered n) s ≡
 
 module _ (t : Table) (k : Good t) (a : Holders t) where
   -- a leg's record, and a holder's
-  leg_found : (g : Leg) → leg_at g.link t ≡ some g → (r : LinkRec) × (find (numbered g.link) t.links ≡ some r) × (is_leg r.holder ≡ true)
+  leg_found : (g : Leg) → leg_at g.link t ≡ Some g → (r : LinkRec) × (find (numbered g.link) t.links ≡ Some r) × (is_leg r.holder ≡ true)
   leg_found g e =
       let n : ℕ = g.link in
       let x = tally_found (numbered n) t.links (leg_record t n g e k) in
       (x.0, x.1, is_leg_lem n t.links x.0 x.1 (k.owned.one_record n) (omega (arith, a.by_leg n, legs_less t n g e n, ap one (eqb_same n))))
 
   -- no leg has a holder's link
-  held_none : (p : Bytes) (h : Held) → held_at p t ≡ some h → leggeds h.link t.links ≡ 0
+  held_none : (p : Bytes) (h : Held) → held_at p t ≡ Some h → leggeds h.link t.links ≡ 0
   held_none p h e =
       let n : ℕ = h.link in
       omega (arith, a.by_leg n, k.owned.one_owner n, k.owned.one_record n, held_less t p h e n, ap one (eqb_same n))
@@ -105,13 +105,13 @@ module _ (t : Table) (k : Good t) (a : Holders t) where
   unfolding opened
   new_leg n to d g f = record { by_leg = λ m. simp (tally_append, f) (omega (arith, a.by_leg m, ap one (and-true (eqb m n)))) }
 
-  leg_ends : (g : Leg) → leg_at g.link t ≡ some g → Holders (ends g t).table
+  leg_ends : (g : Leg) → leg_at g.link t ≡ Some g → Holders (ends g t).table
   unfolding ends
   leg_ends g e =
       let x = leg_found g e in
       record { by_leg = λ m. omega (arith, a.by_leg m, retired_leg g.link t.links x.0 x.1 x.2 m, legs_less t g.link g e m) }
 
-  holder_goes : (now : ℕ) (p : Bytes) (why : Why) (h : Held) → held_at p t ≡ some h → Holders (removed now p why h t).table
+  holder_goes : (now : ℕ) (p : Bytes) (why : Why) (h : Held) → held_at p t ≡ Some h → Holders (removed now p why h t).table
   unfolding removed
   holder_goes now p why h e =
       let x = tally_found (numbered h.link) t.links (held_record t p h e k) in
@@ -119,20 +119,20 @@ module _ (t : Table) (k : Good t) (a : Holders t) where
       record { by_leg = λ m. omega (arith, a.by_leg m, retired_peer h.link t.links x.0 x.1 f m) }
 
   -- the leg's record becomes its holder's
-  leg_held : (g : Leg) (p : Bytes) → leg_at g.link t ≡ some g → (m : ℕ) → leggeds m (hold g.link (APeer p) t.links) ≡ tally (λ j. one (on_link m j)) (without (on_link g.link) t.legs)
+  leg_held : (g : Leg) (p : Bytes) → leg_at g.link t ≡ Some g → (m : ℕ) → leggeds m (hold g.link (APeer p) t.links) ≡ tally (λ j. one (on_link m j)) (without (on_link g.link) t.legs)
   leg_held g p e m =
       let x = leg_found g e in
       omega (arith, a.by_leg m, held_leg g.link t.links x.0 x.1 p x.2 m, legs_less t g.link g e m)
 
-  leg_promoted : (now : ℕ) (p : Bytes) (b : Answered) (g : Leg) (r : LinkRec) → leg_at g.link t ≡ some g → Holders (promote now p b g r t).table
+  leg_promoted : (now : ℕ) (p : Bytes) (b : Answered) (g : Leg) (r : LinkRec) → leg_at g.link t ≡ Some g → Holders (promote now p b g r t).table
   unfolding promote
   leg_promoted now p b g r e = record { by_leg = λ m. omega (arith, leg_held g p e m) }
 
-  leg_dialed : (now : ℕ) (p : Bytes) (g : Leg) (epoch : ℕ) (from : Pair) (how : Transition) → leg_at g.link t ≡ some g → Holders (dialed now p g epoch from how t).table
+  leg_dialed : (now : ℕ) (p : Bytes) (g : Leg) (epoch : ℕ) (from : Pair) (how : Transition) → leg_at g.link t ≡ Some g → Holders (dialed now p g epoch from how t).table
   unfolding dialed
   leg_dialed now p g epoch from how e = record { by_leg = λ m. omega (arith, leg_held g p e m) }
 
-  holder_moves : (p : Bytes) (g : Leg) (h : Held) (from : Pair) → leg_at g.link t ≡ some g → held_at p t ≡ some h → Holders (moveto p g h from t).table
+  holder_moves : (p : Bytes) (g : Leg) (h : Held) (from : Pair) → leg_at g.link t ≡ Some g → held_at p t ≡ Some h → Holders (moveto p g h from t).table
   unfolding moveto
   holder_moves p g h from e w =
       let s : List LinkRec = hold g.link (APeer p) t.links in

@@ -1,8 +1,7 @@
 -- Branches, and sums over lists that lose, gain or change one element.
-use Rattle.std.specs.Prelude.{if◌then◌else◌}
+use Rattle.std.specs.Prelude.{if◌then◌else◌, None, Option, Some}
 use mathlib.Core.Path.{◌≡◌, refl, sym, subst}
 use mathlib.Core.Bool.{Bool, true, false, ◌||◌}
-use mathlib.Core.Option.{Option, none, some}
 use mathlib.Core.List.{List, [], ◌∷◌, ◌++◌}
 use Prim.Native.Nat.{ℕ, ◌+◌, ◌≤◌}
 use native.Mathlib.Omega.{arith}
@@ -16,9 +15,9 @@ pub if_by : {A : Type 0} (P : A → Type 0) (b : Bool) {x y : A} → (b ≡ true
 if_by P true f g = f refl
 if_by P false f g = g refl
 
-pub option_by : {A B : Type 0} (P : B → Type 0) (o : Option A) {x : B} {f : A → B} → (o ≡ none → P x) → ((a : A) → o ≡ some a → P (f a)) → P (option o x f)
-option_by P none f g = f refl
-option_by P (some a) f g = g a refl
+pub option_by : {A B : Type 0} (P : B → Type 0) (o : Option A) {x : B} {f : A → B} → (o ≡ None → P x) → ((a : A) → o ≡ Some a → P (f a)) → P (option o x f)
+option_by P None f g = f refl
+option_by P (Some a) f g = g a refl
 
 pub eqb_sound : (m n : ℕ) → eqb m n ≡ true → m ≡ n
 eqb_sound m n e = eqb→eq m n (subst T (sym e) tt)
@@ -44,30 +43,30 @@ module _ {A : Type 0} where
   all_map P Q h (a ∷ s) p = (h a p.0, all_map P Q h s p.1)
 
   module _ (test : A → Bool) where
-    pub find_test : (s : List A) (a : A) → find test s ≡ some a → test a ≡ true
+    pub find_test : (s : List A) (a : A) → find test s ≡ Some a → test a ≡ true
     find_test [] a e = cc
     find_test (b ∷ s) a e = go (test b) refl (λ h. find_test s a h) e
       where
-        go : (c : Bool) → test b ≡ c → (find test s ≡ some a → test a ≡ true) → (if c then some b else find test s) ≡ some a → test a ≡ true
+        go : (c : Bool) → test b ≡ c → (find test s ≡ Some a → test a ≡ true) → (if c then Some b else find test s) ≡ Some a → test a ≡ true
         go true t ih h = cc
         go false t ih h = ih h
 
     -- what one less weighs less
-    pub tally_without : (f : A → ℕ) (s : List A) (a : A) → find test s ≡ some a → tally f (without test s) + f a ≡ tally f s
+    pub tally_without : (f : A → ℕ) (s : List A) (a : A) → find test s ≡ Some a → tally f (without test s) + f a ≡ tally f s
     tally_without f [] a e = cc
     tally_without f (b ∷ s) a e = go (test b) (λ h. tally_without f s a h) e
       where
-        go : (c : Bool) → (find test s ≡ some a → tally f (without test s) + f a ≡ tally f s) → (if c then some b else find test s) ≡ some a → tally f (if c then s else b ∷ without test s) + f a ≡ f b + tally f s
+        go : (c : Bool) → (find test s ≡ Some a → tally f (without test s) + f a ≡ tally f s) → (if c then Some b else find test s) ≡ Some a → tally f (if c then s else b ∷ without test s) + f a ≡ f b + tally f s
         go true ih h =
             let same : f b ≡ f a = cc in
             omega arith
         go false ih h = omega (arith, ih h)
 
-    pub tally_alter : (f : A → ℕ) (g : A → A) (s : List A) (a : A) → find test s ≡ some a → tally f (alter test g s) + f a ≡ tally f s + f (g a)
+    pub tally_alter : (f : A → ℕ) (g : A → A) (s : List A) (a : A) → find test s ≡ Some a → tally f (alter test g s) + f a ≡ tally f s + f (g a)
     tally_alter f g [] a e = cc
     tally_alter f g (b ∷ s) a e = go (test b) (λ h. tally_alter f g s a h) e
       where
-        go : (c : Bool) → (find test s ≡ some a → tally f (alter test g s) + f a ≡ tally f s + f (g a)) → (if c then some b else find test s) ≡ some a → tally f (if c then g b ∷ s else b ∷ alter test g s) + f a ≡ f b + tally f s + f (g a)
+        go : (c : Bool) → (find test s ≡ Some a → tally f (alter test g s) + f a ≡ tally f s + f (g a)) → (if c then Some b else find test s) ≡ Some a → tally f (if c then g b ∷ s else b ∷ alter test g s) + f a ≡ f b + tally f s + f (g a)
         go true ih h =
             let same : f b ≡ f a = cc in
             let same' : f (g b) ≡ f (g a) = cc in
@@ -83,21 +82,21 @@ module _ {A : Type 0} where
         go false ih = omega arith
 
     -- nothing found, nothing counted
-    pub tally_none : (s : List A) → find test s ≡ none → tally (λ a. one (test a)) s ≡ 0
+    pub tally_none : (s : List A) → find test s ≡ None → tally (λ a. one (test a)) s ≡ 0
     tally_none [] e = refl
     tally_none (b ∷ s) e = go (test b) (λ h. tally_none s h) e
       where
-        go : (c : Bool) → (find test s ≡ none → tally (λ a. one (test a)) s ≡ 0) → (if c then some b else find test s) ≡ none → one c + tally (λ a. one (test a)) s ≡ 0
+        go : (c : Bool) → (find test s ≡ None → tally (λ a. one (test a)) s ≡ 0) → (if c then Some b else find test s) ≡ None → one c + tally (λ a. one (test a)) s ≡ 0
         go true ih h = cc
         go false ih h = omega (arith, ih h)
 
     -- what is counted is found
-    pub tally_found : (s : List A) → 1 ≤ tally (λ a. one (test a)) s → (a : A) × (find test s ≡ some a)
+    pub tally_found : (s : List A) → 1 ≤ tally (λ a. one (test a)) s → (a : A) × (find test s ≡ Some a)
     tally_found s h = go (find test s) refl
       where
-        go : (o : Option A) → find test s ≡ o → (a : A) × (find test s ≡ some a)
-        go none e = absurd (omega (arith, tally_none s e))
-        go (some a) e = (a, e)
+        go : (o : Option A) → find test s ≡ o → (a : A) × (find test s ≡ Some a)
+        go None e = absurd (omega (arith, tally_none s e))
+        go (Some a) e = (a, e)
 
     pub any_without : (p : A → Bool) (s : List A) → any p s ≡ false → any p (without test s) ≡ false
     any_without p [] e = refl

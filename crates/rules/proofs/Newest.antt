@@ -1,8 +1,7 @@
 -- Of the links at an address that yield a stored msg2 the newest, that of the highest number, answers (document 02, paper 5); which answers that changes, beside those of the oldest as it was.
-use Rattle.std.specs.Prelude.{if◌then◌else◌}
+use Rattle.std.specs.Prelude.{if◌then◌else◌, None, Option, Some}
 use mathlib.Core.Path.{◌≡◌, refl, sym, ap, ◌∙◌}
 use mathlib.Core.Bool.{Bool, true, false, not}
-use mathlib.Core.Option.{Option, none, some}
 use mathlib.Core.List.{List, [], ◌∷◌}
 use Prim.Native.Nat.{ℕ, ◌<◌}
 use native.Mathlib.Omega.{arith}
@@ -27,18 +26,18 @@ use Rattle.rules.proofs.Bounds.{bounds}
 -- o is what the link that it names yields, one of these
 pub record Yields (p : Pair) (b : Bytes) (gs : List Leg) (s : List LinkRec) (o : Stored) : Type 0 where
   pub link : LinkRec
-  pub live : find (numbered o.link) s ≡ some link
-  pub yields : stored_on p b gs link ≡ some o
+  pub live : find (numbered o.link) s ≡ Some link
+  pub yields : stored_on p b gs link ≡ Some o
 
 -- what is stored is what a link yields, and no link of a higher number yields any; or none yields any
 pub data Newest (p : Pair) (b : Bytes) (gs : List Leg) (s : List LinkRec) : Option Stored → Type 0 where
-  None : All (λ r. stored_on p b gs r ≡ none) s → Newest p b gs s none
-  Link : (o : Stored) → Yields p b gs s o → All (λ r. o.link < r.no → stored_on p b gs r ≡ none) s → Newest p b gs s (some o)
+  Nothing : All (λ r. stored_on p b gs r ≡ None) s → Newest p b gs s None
+  Link : (o : Stored) → Yields p b gs s o → All (λ r. o.link < r.no → stored_on p b gs r ≡ None) s → Newest p b gs s (Some o)
 
 -- ---- as it was: the oldest
 
 unfoldable pub stored_then : Pair → Bytes → List Leg → List LinkRec → Option Stored
-stored_then p b gs [] = none
+stored_then p b gs [] = None
 stored_then p b gs (r ∷ s) = or_else (stored_on p b gs r) (stored_then p b gs s)
 
 -- the answers with what is stored
@@ -49,7 +48,7 @@ abbrev pub msg1_stored : Hello → Table → Stored → Result
 msg1_stored x t o = ok (writes (Output.Answer o.link true o.msg2 ∷ Free x.lease ∷ []) t)
 
 unfoldable pub arrived_then : Pair → Bytes → Table → Step
-arrived_then p b t = option (stored_then p b t.legs t.links) (writes (if full t then Reject none Full ∷ [] else []) t) (arrived_stored t)
+arrived_then p b t = option (stored_then p b t.legs t.links) (writes (if full t then Reject None Full ∷ [] else []) t) (arrived_stored t)
 
 unfoldable pub msg1_then : ℕ → Hello → Bool → Table → Result
 msg1_then now x reachable t =
@@ -76,20 +75,20 @@ pub record NewestLink (t : Table) : Type 0 where
 
 module _ (p : Pair) (b : Bytes) (gs : List Leg) where
   -- what a link yields bears its number
-  yields_own : (r : LinkRec) (o : Stored) → stored_on p b gs r ≡ some o → o.link ≡ r.no
+  yields_own : (r : LinkRec) (o : Stored) → stored_on p b gs r ≡ Some o → o.link ≡ r.no
   unfolding stored_on
   yields_own r o = if_by P (indexed p r)
       (λ i. option_by P (find (on_link r.no) gs) (λ z e. not_some e) (λ g z. option_by P (stored_msg2 b g) (λ y e. not_some e) (λ m y e. cc)))
       (λ i e. not_some e)
     where
       P : Option Stored → Type 0
-      P q = q ≡ some o → o.link ≡ r.no
+      P q = q ≡ Some o → o.link ≡ r.no
 
   own_number : {s : List LinkRec} {o : Stored} (y : Yields p b gs s o) → o.link ≡ y.link.no
   own_number {s} {o} y = eqb_sound o.link y.link.no (find_test (numbered o.link) s y.link y.live)
 
   module _ (r : LinkRec) (s : List LinkRec) where
-    yields_here : {o : Stored} → stored_on p b gs r ≡ some o → Yields p b gs (r ∷ s) o
+    yields_here : {o : Stored} → stored_on p b gs r ≡ Some o → Yields p b gs (r ∷ s) o
     yields_here {o} e = record { link = r; live = rw (yields_own r o e, eqb_same r.no); yields = e }
 
     module _ (k : All (λ q. earlier_link r q ≡ true) s) {o : Stored} (y : Yields p b gs s o) where
@@ -99,51 +98,51 @@ module _ (p : Pair) (b : Bytes) (gs : List Leg) where
       yields_later : Yields p b gs (r ∷ s) o
       yields_later = record { link = y.link; live = go (eqb o.link r.no) refl; yields = y.yields }
         where
-          go : (c : Bool) → eqb o.link r.no ≡ c → (if c then some r else find (numbered o.link) s) ≡ some y.link
+          go : (c : Bool) → eqb o.link r.no ≡ c → (if c then Some r else find (numbered o.link) s) ≡ Some y.link
           go true e = absurd (omega (arith, later, eqb_sound o.link r.no e))
           go false e = y.live
 
   newest_in : (s : List LinkRec) → Ascending earlier_link s → Newest p b gs s (stored_in p b gs s)
   unfolding stored_in
-  newest_in [] k = None tt
+  newest_in [] k = Nothing tt
   newest_in (r ∷ s) k = go (stored_in p b gs s) (newest_in s k.1) (stored_on p b gs r) refl
     where
       go : (q : Option Stored) → Newest p b gs s q → (w : Option Stored) → stored_on p b gs r ≡ w → Newest p b gs (r ∷ s) (or_else q w)
-      go _ (None a) none e = None (e, a)
-      go _ (None a) (some o) e = Link o (yields_here r s e)
-          ((λ h. absurd (omega (arith, yields_own r o e))), all_map (λ q. stored_on p b gs q ≡ none) (λ q. o.link < q.no → stored_on p b gs q ≡ none) (λ q z h. z) s a)
+      go _ (Nothing a) None e = Nothing (e, a)
+      go _ (Nothing a) (Some o) e = Link o (yields_here r s e)
+          ((λ h. absurd (omega (arith, yields_own r o e))), all_map (λ q. stored_on p b gs q ≡ None) (λ q. o.link < q.no → stored_on p b gs q ≡ None) (λ q z h. z) s a)
       go _ (Link o y a) w e = Link o (yields_later r s k.0 y) ((λ h. absurd (omega (arith, later r s k.0 y))), a)
 
   module _ {s : List LinkRec} where
     -- one that yields is not among those that yield none
-    silent : {C : Type 0} {q : Stored} → Yields p b gs s q → All (λ r. stored_on p b gs r ≡ none) s → C
-    silent {q = q} y a = not_some (sym (all_find (λ r. stored_on p b gs r ≡ none) (numbered q.link) s y.link y.live a) ∙ y.yields)
+    silent : {C : Type 0} {q : Stored} → Yields p b gs s q → All (λ r. stored_on p b gs r ≡ None) s → C
+    silent {q = q} y a = not_some (sym (all_find (λ r. stored_on p b gs r ≡ None) (numbered q.link) s y.link y.live a) ∙ y.yields)
 
-    above : {C : Type 0} {n : ℕ} {q : Stored} → Yields p b gs s q → All (λ r. n < r.no → stored_on p b gs r ≡ none) s → n < q.link → C
+    above : {C : Type 0} {n : ℕ} {q : Stored} → Yields p b gs s q → All (λ r. n < r.no → stored_on p b gs r ≡ None) s → n < q.link → C
     above {n = n} {q} y a h =
         let l : n < y.link.no = omega (arith, own_number y) in
-        not_some (sym (all_find (λ r. n < r.no → stored_on p b gs r ≡ none) (numbered q.link) s y.link y.live a l) ∙ y.yields)
+        not_some (sym (all_find (λ r. n < r.no → stored_on p b gs r ≡ None) (numbered q.link) s y.link y.live a l) ∙ y.yields)
 
     -- nothing else is the newest
     pub sole : {o q : Option Stored} → Newest p b gs s o → Newest p b gs s q → o ≡ q
-    sole (None a) (None c) = refl
-    sole (None a) (Link q y c) = silent y a
-    sole (Link o x a) (None c) = silent x c
+    sole (Nothing a) (Nothing c) = refl
+    sole (Nothing a) (Link q y c) = silent y a
+    sole (Link o x a) (Nothing c) = silent x c
     sole (Link o x a) (Link q y c) = go (ltb o.link q.link) refl (ltb q.link o.link) refl
       where
-        go : (u : Bool) → ltb o.link q.link ≡ u → (v : Bool) → ltb q.link o.link ≡ v → some o ≡ some q
+        go : (u : Bool) → ltb o.link q.link ≡ u → (v : Bool) → ltb q.link o.link ≡ v → Some o ≡ Some q
         go true e v f = above y a (ltb-true _ _ e)
         go false e true f = above x c (ltb-true _ _ f)
         go false e false f =
             let n : o.link ≡ q.link = omega (arith, ltb-false o.link q.link e, ltb-false q.link o.link f) in
-            let l : some x.link ≡ some y.link = sym x.live ∙ ap (λ (k : ℕ). find (numbered k) s) n ∙ y.live in
-            sym x.yields ∙ ap (λ (r : Option LinkRec). option r none (stored_on p b gs)) l ∙ y.yields
+            let l : Some x.link ≡ Some y.link = sym x.live ∙ ap (λ (k : ℕ). find (numbered k) s) n ∙ y.live in
+            sym x.yields ∙ ap (λ (r : Option LinkRec). option r None (stored_on p b gs)) l ∙ y.yields
 
   -- what was found and what is
   data Both (s : List LinkRec) : Option Stored → Option Stored → Type 0 where
-    Neither : Both s none none
-    One : (o : Stored) → Yields p b gs s o → Both s (some o) (some o)
-    Two : (o n : Stored) → Yields p b gs s o → Yields p b gs s n → o.link < n.link → Both s (some o) (some n)
+    Neither : Both s None None
+    One : (o : Stored) → Yields p b gs s o → Both s (Some o) (Some o)
+    Two : (o n : Stored) → Yields p b gs s o → Yields p b gs s n → o.link < n.link → Both s (Some o) (Some n)
 
   both_in : (s : List LinkRec) → Ascending earlier_link s → Both s (stored_then p b gs s) (stored_in p b gs s)
   unfolding stored_in stored_then
@@ -153,16 +152,16 @@ module _ (p : Pair) (b : Bytes) (gs : List Leg) where
       on : {o : Stored} → Yields p b gs s o → Yields p b gs (r ∷ s) o
       on y = yields_later r s k.0 y
 
-      after : {w o : Stored} → stored_on p b gs r ≡ some w → Yields p b gs s o → w.link < o.link
+      after : {w o : Stored} → stored_on p b gs r ≡ Some w → Yields p b gs s o → w.link < o.link
       after {w} e y = omega (arith, yields_own r w e, later r s k.0 y)
 
       go : (q n : Option Stored) → Both s q n → (w : Option Stored) → stored_on p b gs r ≡ w → Both (r ∷ s) (or_else w q) (or_else n w)
-      go _ _ Neither none e = Neither
-      go _ _ Neither (some w) e = One w (yields_here r s e)
-      go _ _ (One o y) none e = One o (on y)
-      go _ _ (One o y) (some w) e = Two w o (yields_here r s e) (on y) (after e y)
-      go _ _ (Two o n x y h) none e = Two o n (on x) (on y) h
-      go _ _ (Two o n x y h) (some w) e = Two w n (yields_here r s e) (on y) (after e y)
+      go _ _ Neither None e = Neither
+      go _ _ Neither (Some w) e = One w (yields_here r s e)
+      go _ _ (One o y) None e = One o (on y)
+      go _ _ (One o y) (Some w) e = Two w o (yields_here r s e) (on y) (after e y)
+      go _ _ (Two o n x y h) None e = Two o n (on x) (on y) h
+      go _ _ (Two o n x y h) (Some w) e = Two w n (yields_here r s e) (on y) (after e y)
 
 module _ (t : Table) (k : Ordered t) where
   beside : (p : Pair) (b : Bytes) {A : Type 0} (x : A) (say : Stored → A)

@@ -1,8 +1,7 @@
 -- Lists that lose, gain or change one element: their lengths, what holds of each element, and their order; then the order of every map.
-use Rattle.std.specs.Prelude.{if◌then◌else◌}
+use Rattle.std.specs.Prelude.{if◌then◌else◌, None, Some}
 use mathlib.Core.Path.{◌≡◌, refl, sym, ap, subst}
 use mathlib.Core.Bool.{Bool, true, false, ◌&&◌}
-use mathlib.Core.Option.{none, some}
 use mathlib.Core.List.{List, [], ◌∷◌, ◌++◌, map}
 use Prim.Native.Nat.{ℕ, suc, ◌+◌, ◌≤◌, ◌<◌}
 use native.Mathlib.Omega.{arith}
@@ -28,11 +27,11 @@ contra e = absurd (subst T e tt)
 -- ---- lists of any element
 
 module _ {A : Type 0} where
-  pub all_find : (P : A → Type 0) (test : A → Bool) (s : List A) (a : A) → find test s ≡ some a → All P s → P a
+  pub all_find : (P : A → Type 0) (test : A → Bool) (s : List A) (a : A) → find test s ≡ Some a → All P s → P a
   all_find P test [] a e p = contra (cc)
   all_find P test (b ∷ s) a e p = go (test b) e (λ h. all_find P test s a h p.1)
     where
-      go : (c : Bool) → (if c then some b else find test s) ≡ some a → (find test s ≡ some a → P a) → P a
+      go : (c : Bool) → (if c then Some b else find test s) ≡ Some a → (find test s ≡ Some a → P a) → P a
       go true h ih = let f : b ≡ a = cc in subst P f p.0
       go false h ih = ih h
 
@@ -45,12 +44,12 @@ module _ {A : Type 0} where
   all_kept P test (b ∷ s) p = if_by (All P) (test b) (λ e. (p.0, all_kept P test s p.1)) (λ e. all_kept P test s p.1)
 
   -- the first that passes is changed
-  pub all_alter_found : (P : A → Type 0) (test : A → Bool) (f : A → A) (s : List A) → ((a : A) → find test s ≡ some a → P a → P (f a)) → All P s → All P (alter test f s)
+  pub all_alter_found : (P : A → Type 0) (test : A → Bool) (f : A → A) (s : List A) → ((a : A) → find test s ≡ Some a → P a → P (f a)) → All P s → All P (alter test f s)
   all_alter_found P test f [] k p = tt
   all_alter_found P test f (b ∷ s) k p = go (test b) k (λ h. all_alter_found P test f s h p.1)
     where
-      go : (c : Bool) → ((a : A) → (if c then some b else find test s) ≡ some a → P a → P (f a))
-          → (((a : A) → find test s ≡ some a → P a → P (f a)) → All P (alter test f s)) → All P (if c then f b ∷ s else b ∷ alter test f s)
+      go : (c : Bool) → ((a : A) → (if c then Some b else find test s) ≡ Some a → P a → P (f a))
+          → (((a : A) → find test s ≡ Some a → P a → P (f a)) → All P (alter test f s)) → All P (if c then f b ∷ s else b ∷ alter test f s)
       go true h ih = (h b refl p.0, p.1)
       go false h ih = (p.0, ih h)
 
@@ -65,11 +64,11 @@ module _ {A : Type 0} where
   length_without test [] = omega arith
   length_without test (a ∷ s) = if_by (λ (u : List A). length u ≤ suc (length s)) (test a) (λ e. omega arith) (λ e. omega (arith, length_without test s))
 
-  pub length_less : (test : A → Bool) (s : List A) (a : A) → find test s ≡ some a → length (without test s) + 1 ≡ length s
+  pub length_less : (test : A → Bool) (s : List A) (a : A) → find test s ≡ Some a → length (without test s) + 1 ≡ length s
   length_less test [] a e = cc
   length_less test (b ∷ s) a e = go (test b) e (λ h. length_less test s a h)
     where
-      go : (c : Bool) → (if c then some b else find test s) ≡ some a → (find test s ≡ some a → length (without test s) + 1 ≡ length s)
+      go : (c : Bool) → (if c then Some b else find test s) ≡ Some a → (find test s ≡ Some a → length (without test s) + 1 ≡ length s)
           → length (if c then s else b ∷ without test s) + 1 ≡ suc (length s)
       go true h ih = omega arith
       go false h ih = omega (arith, ih h)
@@ -86,11 +85,11 @@ module _ {A : Type 0} where
   length_snoc [] a = refl
   length_snoc (b ∷ s) a = omega (arith, length_snoc s a)
 
-  pub find_none : (test : A → Bool) (s : List A) → find test s ≡ none → All (λ a. test a ≡ false) s
+  pub find_none : (test : A → Bool) (s : List A) → find test s ≡ None → All (λ a. test a ≡ false) s
   find_none test [] e = tt
   find_none test (a ∷ s) e = go (test a) refl e (λ h. find_none test s h)
     where
-      go : (c : Bool) → test a ≡ c → (if c then some a else find test s) ≡ none → (find test s ≡ none → All (λ b. test b ≡ false) s)
+      go : (c : Bool) → test a ≡ c → (if c then Some a else find test s) ≡ None → (find test s ≡ None → All (λ b. test b ≡ false) s)
           → (test a ≡ false) × All (λ b. test b ≡ false) s
       go true x h ih = contra (cc)
       go false x h ih = (x, ih h)

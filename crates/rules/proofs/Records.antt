@@ -1,15 +1,14 @@
 -- A record that is accepted is the only spelling of what it says, and what is spelt reads back.
-use Rattle.std.specs.Prelude.{if◌then◌else◌}
+use Rattle.std.specs.Prelude.{if◌then◌else◌, None, Option, Some, slice_get}
 use mathlib.Core.Path.{◌≡◌, refl, sym, ap}
 use mathlib.Core.Logic.{◌⊎◌, inl, inr}
 use mathlib.Core.Bool.{false, ◌&&◌}
-use mathlib.Core.Option.{Option, none, some}
 use mathlib.Core.List.{[], ◌∷◌, ◌++◌, append_assoc, append-nil}
 use Prim.Native.Nat.{ℕ, ◌+◌, ◌≤◌, ◌<◌}
 use native.Mathlib.Omega.{arith}
 use borrow.Author.Tests.{eq-eqb, le-ltb}
 use lib.Dec.{eqb, lit<, lit≤}
-use lib.ListN.{length, get_elem?, length-append}
+use lib.ListN.{length, length-append}
 use Rattle.rules.specs.Base.{option, Bytes, All}
 use Rattle.rules.specs.Time.{Params, default, out_of_range}
 use Rattle.rules.specs.Data.{Pair, Table, Hello, Call}
@@ -24,7 +23,7 @@ use Rattle.rules.proofs.CallFits.{HelloFits, CallFits, TimedFits, SettingsFit, h
 -- ---- frames
 
 module _ {A : Type 0} (fields : ℕ → Reader A) where
-  pub framed_back : (k : ℕ) (u : Bytes) (x : A) → k < 256 → length u < 65_534 → Speaks (fields k) u x → framed fields (frame k u) ≡ some x
+  pub framed_back : (k : ℕ) (u : Bytes) (x : A) → k < 256 → length u < 65_534 → Speaks (fields k) u x → framed fields (frame k u) ≡ Some x
   unfolding framed frame
   framed_back k u x h l f = ap finished (simp append-nil at (all.said []))
     where
@@ -46,7 +45,7 @@ module _ {A : Type 0} (fields : ℕ → Reader A) where
 
 -- ---- calls
 
-pub reads_spelt : (s : Bytes) (x : Timed) → All IsByte s → read_call s ≡ some x → s ≡ spell_call x
+pub reads_spelt : (s : Bytes) (x : Timed) → All IsByte s → read_call s ≡ Some x → s ≡ spell_call x
 unfolding spell_call
 reads_spelt s x h e =
     let w = said s x h e in
@@ -102,7 +101,7 @@ kind_small (Call.Path n p v) = lit< tt
 kind_small (Call.Release n p k) = lit< tt
 kind_small Call.Wake = lit< tt
 
-call_speaks : (c : Call) → CallFits c → Speaks (option (get_elem? kinds (call_kind c)) fail λ f. f) (call_bytes c) c
+call_speaks : (c : Call) → CallFits c → Speaks (option (slice_get kinds (call_kind c)) fail λ f. f) (call_bytes c) c
 unfolding kinds call_bytes dial_fields link_fields arrived_fields msg1_fields replacement_fields msg2_fields restarted_fields heard_fields remove_fields path_fields release_fields
 call_speaks (Call.Dial p to m l) h = so_speaks
     (then_speaks (bytes_reads 16) _ h.peer (then_speaks pair_reads _ h.pair (then_speaks message_reads _ h.msg1 (then_speaks (number_reads 4) _ h.lease give_speaks))))
@@ -129,7 +128,7 @@ call_speaks (Call.Release n p k) h = so_speaks
     (simp (append_assoc, append-nil))
 call_speaks Call.Wake h = give_speaks
 
-pub spelt_reads : (x : Timed) → TimedFits x → read_call (spell_call x) ≡ some x
+pub spelt_reads : (x : Timed) → TimedFits x → read_call (spell_call x) ≡ Some x
 unfolding read_call spell_call timed
 spelt_reads x h = framed_back timed (call_kind x.call) (digits 8 x.now ++ call_bytes x.call) x (kind_small x.call)
     (simp (length-append, length_digits) (omega (arith, call_short x.call h.call)))
@@ -143,17 +142,17 @@ settings_short c = simp (length-append, length_digits)
 
 form_short : (f : Option Params) → length (form_bytes f) ≤ 75
 unfolding form_bytes
-form_short none = lit≤ tt
-form_short (some c) = omega (arith, settings_short c)
+form_short None = lit≤ tt
+form_short (Some c) = omega (arith, settings_short c)
 
 form_speaks : (f : Option Params) → IfAny SettingsFit f → Speaks form (form_bytes f) (meant f)
 unfolding form form_bytes
-form_speaks none h = bind_speaks _ _ (code_speaks (give default ∷ settings ∷ []) 0 (give default) (lit< tt) refl) give_speaks
-form_speaks (some c) h = bind_speaks _ _ (code_speaks (give default ∷ settings ∷ []) 1 settings (lit< tt) refl) (last_speaks settings_reads h)
+form_speaks None h = bind_speaks _ _ (code_speaks (give default ∷ settings ∷ []) 0 (give default) (lit< tt) refl) give_speaks
+form_speaks (Some c) h = bind_speaks _ _ (code_speaks (give default ∷ settings ∷ []) 1 settings (lit< tt) refl) (last_speaks settings_reads h)
 
 -- what is spelt of either form is read, form 0 as the default
 pub spelt_begins : (now : ℕ) (me : Bytes) (first : ℕ) (f : Option Params) → Word now → Exactly 16 me → Word first → IfAny SettingsFit f
-    → read_new (spell_new now me first f) ≡ some (record { now = now; me = me; first = first; params = meant f })
+    → read_new (spell_new now me first f) ≡ Some (record { now = now; me = me; first = first; params = meant f })
 unfolding read_new spell_new begin begin_fields
 spelt_begins now me first f h m l c =
     framed_back begin 17 (digits 8 now ++ me ++ digits 8 first ++ form_bytes f) (record { now = now; me = me; first = first; params = meant f }) (lit< tt)
@@ -162,15 +161,15 @@ spelt_begins now me first f h m l c =
     (simp (append_assoc, append-nil)))
 
 -- an accepted new is form 0, with the default, or form 1 of what it says
-pub begins_spelt : (s : Bytes) (b : Begin) → All IsByte s → read_new s ≡ some b
-    → ((b.params ≡ default) × (s ≡ spell_new b.now b.me b.first none)) ⊎ (s ≡ spell_new b.now b.me b.first (some b.params))
+pub begins_spelt : (s : Bytes) (b : Begin) → All IsByte s → read_new s ≡ Some b
+    → ((b.params ≡ default) × (s ≡ spell_new b.now b.me b.first None)) ⊎ (s ≡ spell_new b.now b.me b.first (Some b.params))
 unfolding spell_new
 begins_spelt s b h e = let w = begun s b h e in go w.means.given w.means.value (rw (w.means.kind, w.means.spelt) at w.spelt)
   where
     go : (f : Option Params) → meant f ≡ b.params → s ≡ frame 17 (digits 8 b.now ++ b.me ++ digits 8 b.first ++ form_bytes f)
-        → ((b.params ≡ default) × (s ≡ spell_new b.now b.me b.first none)) ⊎ (s ≡ spell_new b.now b.me b.first (some b.params))
-    go none v e = inl (sym v, e)
-    go (some c) v e = inr (rw v at e)
+        → ((b.params ≡ default) × (s ≡ spell_new b.now b.me b.first None)) ⊎ (s ≡ spell_new b.now b.me b.first (Some b.params))
+    go None v e = inl (sym v, e)
+    go (Some c) v e = inr (rw v at e)
 
 -- ---- the entries, on what is spelt
 

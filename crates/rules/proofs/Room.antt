@@ -1,8 +1,7 @@
 -- The table keeps to its limits: 32 links, as many legs and holders together, 32 places, and so 32 memories.
-use Rattle.std.specs.Prelude.{if◌then◌else◌}
+use Rattle.std.specs.Prelude.{if◌then◌else◌, None, Option, Some}
 use mathlib.Core.Path.{◌≡◌, refl, sym, ap, ◌∙◌, subst}
 use mathlib.Core.Bool.{Bool, true, false, not, ◌&&◌, ◌||◌}
-use mathlib.Core.Option.{Option, none, some}
 use mathlib.Core.List.{List, [], ◌∷◌, ◌++◌, map}
 use Prim.Native.Nat.{ℕ, ◌+◌, ◌≤◌, ◌<◌}
 use native.Mathlib.Omega.{arith}
@@ -60,16 +59,16 @@ module _ (P : Bytes → Type 0) where
   to_legs (g ∷ s) p = all_append P (peer_of g) (leg_peers s) (here g.peer p.0) (to_legs s p.1)
     where
       here : (o : Option Bytes) → IfAny P o → All P (option o [] (λ q. q ∷ []))
-      here none x = tt
-      here (some q) x = (x, tt)
+      here None x = tt
+      here (Some q) x = (x, tt)
 
   of_legs : (s : List Leg) → All P (leg_peers s) → All (λ g. IfAny P g.peer) s
   of_legs [] p = tt
   of_legs (g ∷ s) p = let x = all_split P (peer_of g) (leg_peers s) p in (here g.peer x.0, of_legs s x.1)
     where
       here : (o : Option Bytes) → All P (option o [] (λ q. q ∷ [])) → IfAny P o
-      here none x = tt
-      here (some q) x = x.0
+      here None x = tt
+      here (Some q) x = x.0
 
 -- a peer that names no place is absent, and the other way round
 module _ (q : Bytes) (t : Table) where
@@ -147,7 +146,7 @@ length_retireds (g ∷ gs) s h =
     omega (arith, one_less g.link s here, length_retireds gs (retired g.link s) (λ i. omega (arith, records_retired g.link s here i, h i)))
 
 module _ (t : Table) (k : Good t) where
-  pub stays_ends : (g : Leg) → leg_at g.link t ≡ some g → Stays t (ends g t).table
+  pub stays_ends : (g : Leg) → leg_at g.link t ≡ Some g → Stays t (ends g t).table
   unfolding ends
   stays_ends g e = record {
     links = length_without (numbered g.link) t.links;
@@ -156,18 +155,18 @@ module _ (t : Table) (k : Good t) where
   }
 
   -- a holder's peer is not one that is absent
-  not_held : (q p : Bytes) (h : Held) → held_at p t ≡ some h → Absent q t → Other q h.peer
+  not_held : (q p : Bytes) (h : Held) → held_at p t ≡ Some h → Absent q t → Other q h.peer
   not_held q p h e x = all_find (λ h. Other q h.peer) (named p) t.held h e x.held
 
-  not_held_as : (q p : Bytes) (h : Held) → held_at p t ≡ some h → Absent q t → Other q p
+  not_held_as : (q p : Bytes) (h : Held) → held_at p t ≡ Some h → Absent q t → Other q p
   not_held_as q p h e x = rw (← same_sound p h.peer (find_test (named p) t.held h e)) at (not_held q p h e x)
 
-  absent_parted : (q : Bytes) (now : ℕ) (p : Bytes) (h : Held) → held_at p t ≡ some h → Absent q t → Elsewhere q (parted now h t)
+  absent_parted : (q : Bytes) (now : ℕ) (p : Bytes) (h : Held) → held_at p t ≡ Some h → Absent q t → Elsewhere q (parted now h t)
   unfolding parted ended
   absent_parted q now p h e x = if_by (Elsewhere q) h.heard (λ z. x.gates)
-      (λ z. absent_changed q (ended t.params now (some h.epoch) h.setup) h.peer t.gates (λ m. refl) (not_held q p h e x) x.gates)
+      (λ z. absent_changed q (ended t.params now (Some h.epoch) h.setup) h.peer t.gates (λ m. refl) (not_held q p h e x) x.gates)
 
-  pub stays_removed : (now : ℕ) (p : Bytes) (why : Why) (h : Held) → held_at p t ≡ some h → Stays t (removed now p why h t).table
+  pub stays_removed : (now : ℕ) (p : Bytes) (why : Why) (h : Held) → held_at p t ≡ Some h → Stays t (removed now p why h t).table
   unfolding removed
   stays_removed now p why h e = record {
     links = length_without (numbered h.link) t.links;
@@ -175,7 +174,7 @@ module _ (t : Table) (k : Good t) where
     absent = λ q x. record { held = all_without (λ h. Other q h.peer) (named p) t.held x.held; legs = x.legs; gates = absent_parted q now p h e x };
   }
 
-  pub stays_stamp : (now : ℕ) (p : Bytes) (h : Held) → held_at p t ≡ some h → Stays t (stamp now h t)
+  pub stays_stamp : (now : ℕ) (p : Bytes) (h : Held) → held_at p t ≡ Some h → Stays t (stamp now h t)
   unfolding stamp
   stays_stamp now p h e = record {
     links = omega arith;
@@ -188,10 +187,10 @@ module _ (t : Table) (k : Good t) where
   }
 
   -- the leg's peer is not one that is absent
-  not_leg : (q : Bytes) (n : ℕ) (g : Leg) (p : Bytes) → leg_at n t ≡ some g → g.peer ≡ some p → Absent q t → Other q p
+  not_leg : (q : Bytes) (n : ℕ) (g : Leg) (p : Bytes) → leg_at n t ≡ Some g → g.peer ≡ Some p → Absent q t → Other q p
   not_leg q n g p e f x = subst (IfAny (Other q)) f (all_find (λ g. IfAny (Other q) g.peer) (on_link n) t.legs g e x.legs)
 
-  stays_installs : (g : Leg) (h : Held) (m : List Memory) → leg_at g.link t ≡ some g → g.peer ≡ some h.peer
+  stays_installs : (g : Leg) (h : Held) (m : List Memory) → leg_at g.link t ≡ Some g → g.peer ≡ Some h.peer
       → ((q : Bytes) → Other q h.peer → Absent q t → Elsewhere q m) → Stays t (with_gates m (installs g h t))
   stays_installs g h m e f a = record {
     links = omega (arith, length_hold g.link h.peer t.links);
@@ -205,17 +204,17 @@ module _ (t : Table) (k : Good t) where
         };
   }
 
-  pub stays_promote : (now : ℕ) (p : Bytes) (a : Answered) (g : Leg) (r : LinkRec) → leg_at g.link t ≡ some g → g.peer ≡ some p
+  pub stays_promote : (now : ℕ) (p : Bytes) (a : Answered) (g : Leg) (r : LinkRec) → leg_at g.link t ≡ Some g → g.peer ≡ Some p
       → Stays t (promote now p a g r t).table
   unfolding promote promoted
   stays_promote now p a g r e f = stays_installs g _ _ e f (λ q d x. absent_changed q (promoted t.params now a.ephemeral) p t.gates (λ m. refl) d x.gates)
 
-  pub stays_dialed : (now : ℕ) (p : Bytes) (g : Leg) (epoch : ℕ) (from : Pair) (how : Transition) → leg_at g.link t ≡ some g → g.peer ≡ some p
+  pub stays_dialed : (now : ℕ) (p : Bytes) (g : Leg) (epoch : ℕ) (from : Pair) (how : Transition) → leg_at g.link t ≡ Some g → g.peer ≡ Some p
       → Stays t (dialed now p g epoch from how t).table
   unfolding dialed
   stays_dialed now p g epoch from how e f = stays_installs g _ t.gates e f (λ q d x. x.gates)
 
-  pub stays_moveto : (p : Bytes) (g : Leg) (h : Held) (from : Pair) → leg_at g.link t ≡ some g → held_at p t ≡ some h → Stays t (moveto p g h from t).table
+  pub stays_moveto : (p : Bytes) (g : Leg) (h : Held) (from : Pair) → leg_at g.link t ≡ Some g → held_at p t ≡ Some h → Stays t (moveto p g h from t).table
   unfolding moveto
   stays_moveto p g h from e w =
       let s : List LinkRec = hold g.link (APeer p) t.links in
@@ -280,7 +279,7 @@ module _ (t : Table) (k : Good t) where
       record { links = omega (arith, fewer); owners = λ v. omega (arith, fewer); absent = λ q x. record { held = x.held; legs = tt; gates = x.gates } }
 
 -- a holder goes, and an answer to its peer comes
-pub stays_displaced : (t : Table) → Good t → (now : ℕ) (s : Source) (x : Hello) (h : Held) → held_at x.peer t ≡ some h
+pub stays_displaced : (t : Table) → Good t → (now : ℕ) (s : Source) (x : Hello) (h : Held) → held_at x.peer t ≡ Some h
     → Stays t (answer now x true (removed now x.peer (displaces s) h (stamp now h t)).table).table
 unfolding stamp removed answer answer_leg
 stays_displaced t k now s x h e =
@@ -339,7 +338,7 @@ module _ (t : Table) (k : Limits t) where
       record { links = omega (arith, s.links, k.links); owners = s.owners k.owners; places = omega (arith, k.places); gates = omega (arith, k.places, gates_placed u o) }
 
   -- room for one more
-  pub limits_joined : (r : LinkRec) (g : Leg) (p : Bytes) → Ordered (joined r g t) → g.peer ≡ some p → leb 32 (length t.links) ≡ false
+  pub limits_joined : (r : LinkRec) (g : Leg) (p : Bytes) → Ordered (joined r g t) → g.peer ≡ Some p → leb 32 (length t.links) ≡ false
       → not (any (same p) (places t)) && leb 32 (length (places t)) ≡ false → Limits (joined r g t)
   unfolding places distinct
   limits_joined r g p o a b c = let fit = fits in record {
@@ -392,8 +391,8 @@ module _ (t : Table) (p : Bytes) where
       go q false d x = any_right (same q) (map (λ h. h.peer) t.held ++ leg_peers t.legs) own x
 
   module _ (g : Good t) (k : Ordered t) (l : Limits t) where
-    pub room_held : (h : Held) → held_at p t ≡ some h → Elsewhere p t.gates → length t.gates < 32
+    pub room_held : (h : Held) → held_at p t ≡ Some h → Elsewhere p t.gates → length t.gates < 32
     room_held h e x = omega (arith, l.places, free k (placed (not_held_as t g p p h e)) x)
 
-    pub room_leg : (n : ℕ) (j : Leg) → leg_at n t ≡ some j → j.peer ≡ some p → Elsewhere p t.gates → length t.gates < 32
+    pub room_leg : (n : ℕ) (j : Leg) → leg_at n t ≡ Some j → j.peer ≡ Some p → Elsewhere p t.gates → length t.gates < 32
     room_leg n j e f x = omega (arith, l.places, free k (placed (not_leg t g p n j p e f)) x)

@@ -1,7 +1,7 @@
 -- The starred lines of document 01, its worked tape, the refusals and the errors a porter makes, computed from the definitions with default settings.
+use Rattle.std.specs.Prelude.{None, Option, Some}
 use mathlib.Core.Path.{◌≡◌, refl}
 use mathlib.Core.Bool.{true, false}
-use mathlib.Core.Option.{Option, none, some}
 use mathlib.Core.List.{List, [], ◌∷◌, ◌++◌}
 use Prim.Native.Nat.{ℕ, zero, suc, ◌+◌, ◌-◌}
 use lib.ListN.{replicate}
@@ -94,10 +94,10 @@ endings_last = ending (last_reading - 10) 1 ++ ending (last_reading - 10) 2 ++ e
 
 -- what the first of them leaves
 abbrev pub ended_last : Silence
-ended_last = record { epoch = some 5; count = 1; last = last_reading - 10; until = none; counted = replicate 32 1 ∷ [] }
+ended_last = record { epoch = Some 5; count = 1; last = last_reading - 10; until = None; counted = replicate 32 1 ∷ [] }
 
 abbrev pub rejected : Source → Refusal → ℕ → List Output
-rejected s r l = Reject (some (them, s)) (Gate r) ∷ Free l ∷ []
+rejected s r l = Reject (Some (them, s)) (Gate r) ∷ Free l ∷ []
 
 abbrev pub passed : ℕ → List Output
 passed n = Output.Remove them Why.Restart ∷ Retire n [] ∷ Output.Answer (n + 1) false (2 ∷ []) ∷ []
@@ -133,7 +133,7 @@ abbrev pub polls : ℕ → Timed
 polls s = on (seconds s) Call.Poll
 
 abbrev pub wakes : ℕ → Output
-wakes s = Output.Wake (some (seconds s))
+wakes s = Output.Wake (Some (seconds s))
 
 -- sent, then wake
 abbrev pub sends : ℕ → List Timed
@@ -145,11 +145,11 @@ unfolding after
 silences zero link now t = []
 silences (suc n) link now t =
     let u : Table = (after (ending now link) t).table in
-    let until : Option ℕ = option (memory them u.gates).silence none λ r. r.until in
-    option until none (λ v. some (v - now)) ∷ silences n (suc link) (option until now λ v. v) u
+    let until : Option ℕ = option (memory them u.gates).silence None λ r. r.until in
+    option until None (λ v. Some (v - now)) ∷ silences n (suc link) (option until now λ v. v) u
 
 abbrev pub for : ℕ → Option ℕ
-for s = some (seconds s)
+for s = Some (seconds s)
 
 -- ---- the worked tape
 
@@ -237,7 +237,7 @@ abbrev pub dialed_full : ℕ → List Timed
 dialed_full e = silent_full ++ (dials 0 them 9 ∷ on 0 (Call.Msg2 5 e A) ∷ [])
 
 abbrev pub rejected_full : Source → List Output
-rejected_full s = Reject (some (them, s)) Full ∷ Free 4 ∷ []
+rejected_full s = Reject (Some (them, s)) Full ∷ Free 4 ∷ []
 
 pub record Rows : Type 0 where
   -- Backoff of 1 ns, no cap in reach: exponent 31 gives 2,147,483,648; 32 gives 4,294,967,295.
@@ -252,7 +252,7 @@ pub record Rows : Type 0 where
       ≡ Opened 1 ∷ wakes 1 ∷ wakes 3 ∷ wakes 7 ∷ wakes 15 ∷ wakes 30 ∷ []
   -- Dial 10 ns below the last reading: it wakes, and is reaped, at the last and not before.
   pub dial_last : outs (dials (last_reading - 10) them 9 ∷ on (last_reading - 10) Call.Wake ∷ on (last_reading - 1) Call.Poll ∷ on last_reading Call.Poll ∷ [])
-      ≡ Opened 1 ∷ Output.Wake (some last_reading) ∷ Free 9 ∷ Retire 1 (A ∷ []) ∷ []
+      ≡ Opened 1 ∷ Output.Wake (Some last_reading) ∷ Free 9 ∷ Retire 1 (A ∷ []) ∷ []
   -- Restart, new digest, no stamp, unheard holder: refused at 999,999,999 ns; passes at 1 s; stamp 2 s old, Dampened.
   pub restart_young : says (holds 0 5 1 1) (msg1s 999_999_999 6 2) ≡ rejected Source.Restart Unheard 2
   pub restart_old : says (holds 0 5 1 1) (msg1s (seconds 1) 6 2) ≡ passed 1
@@ -260,7 +260,7 @@ pub record Rows : Type 0 where
   -- A seen digest within 1 s is Replayed, not Unheard.
   pub restart_seen : says (holds 0 5 1 1) (msg1s 999_999_999 6 1) ≡ rejected Source.Restart Replayed 1
   -- Silences 30, 60, 120, 240, 480, 600 s from the third ending.
-  pub silence_spans : silences 9 1 0 (from 1) ≡ none ∷ none ∷ for 30 ∷ for 60 ∷ for 120 ∷ for 240 ∷ for 480 ∷ for 600 ∷ for 600 ∷ []
+  pub silence_spans : silences 9 1 0 (from 1) ≡ None ∷ None ∷ for 30 ∷ for 60 ∷ for 120 ∷ for 240 ∷ for 480 ∷ for 600 ∷ for 600 ∷ []
   -- until = now lets through.
   pub silence_on : says (ending 0 1 ++ ending 0 2 ++ ending 0 3) (msg1s 29_999_999_999 5 4) ≡ rejected Source.NotHeld Silent 4
   pub silence_over : says (ending 0 1 ++ ending 0 2 ++ ending 0 3) (msg1s (seconds 30) 5 4) ≡ Output.Answer 4 false (2 ∷ []) ∷ []
@@ -277,7 +277,7 @@ pub record Rows : Type 0 where
   pub full_over : says_pending1 silent_full (msg1s (seconds 30) 5 4) ≡ rejected_full Source.NotHeld
   pub full_epoch : says_pending1 silent_full (msg1s 0 6 4) ≡ rejected_full Source.NotHeld
   pub full_restart : says_pending1 (dialed_full 6) (msg1s 0 5 4) ≡ rejected_full Source.Restart
-  pub full_arrived : says_pending1 silent_full (on 0 (Call.Arrived A (1 ∷ []))) ≡ Reject none Full ∷ []
+  pub full_arrived : says_pending1 silent_full (on 0 (Call.Arrived A (1 ∷ []))) ≡ Reject None Full ∷ []
   -- Retiring a leg without paths whose setup another leg shares closes nothing.
   pub shared_setup : says (dials 0 them 9 ∷ dials 0 (replicate 16 0x23) 10 ∷ []) (on 0 (Call.Abandon 1)) ≡ Free 9 ∷ Retire 1 [] ∷ []
   -- The worked tape: new; dial; abandon. Done; Opened 1, Done; Free 9, Retire 1 closing the pair, Done.
@@ -288,10 +288,10 @@ pub record Rows : Type 0 where
   pub tape_empty : writes_of [] ≡ []
   pub tape_refused : writes_of (dial_record ++ dial_record) ≡ done 3
   -- 1: counted 0 or above 8, or replays above 8
-  pub number_1 : new (spell_new 0 (replicate 16 0) 1 (some (limits 8 0 1000))) ≡ Refused 1
-  pub number_1_counted : new (spell_new 0 (replicate 16 0) 1 (some (limits 8 9 1000))) ≡ Refused 1
-  pub number_1_replays : new (spell_new 0 (replicate 16 0) 1 (some (limits 9 8 1000))) ≡ Refused 1
-  pub number_none : new (spell_new 0 (replicate 16 0) 1 (some (limits 8 8 1000))) ≡ Made (from 1)
+  pub number_1 : new (spell_new 0 (replicate 16 0) 1 (Some (limits 8 0 1000))) ≡ Refused 1
+  pub number_1_counted : new (spell_new 0 (replicate 16 0) 1 (Some (limits 8 9 1000))) ≡ Refused 1
+  pub number_1_replays : new (spell_new 0 (replicate 16 0) 1 (Some (limits 9 8 1000))) ≡ Refused 1
+  pub number_none : new (spell_new 0 (replicate 16 0) 1 (Some (limits 8 8 1000))) ≡ Made (from 1)
   -- 2 comes before 3: an output buffer under 10,240 bytes, for any record
   pub number_2 : (call [] 10_239 (from 1)).number ≡ 2
   pub number_3 : (call [] 10_240 (from 1)).number ≡ 3

@@ -1,8 +1,7 @@
 -- What a call makes: the table within its widths, each output too, and all that it writes within 10,240 bytes.
-use Rattle.std.specs.Prelude.{if◌then◌else◌}
+use Rattle.std.specs.Prelude.{if◌then◌else◌, None, Option, Some}
 use mathlib.Core.Path.{◌≡◌}
 use mathlib.Core.Bool.{Bool, true, false, not, ◌&&◌, ◌||◌}
-use mathlib.Core.Option.{Option, none, some}
 use mathlib.Core.List.{List, [], ◌∷◌, ◌++◌, map}
 use Prim.Native.Nat.{ℕ, suc, ◌+◌, ◌-◌, ◌*◌, ◌^◌, ◌≤◌, ◌<◌, min}
 use native.Mathlib.Omega.{arith}
@@ -111,10 +110,10 @@ output_size (Output.Release n ps) f = simp (length-append, length_digits) (omega
 output_size (Output.Close ps) f = omega (arith, list_size ps f.each)
 output_size (Free l) f = simp length_digits (omega arith)
 output_size (Retry p) f = omega (arith, f.size)
-output_size (Reject none w) f = omega arith
-output_size (Reject (some (p, s)) w) f = simp length-append (omega (arith, f.size))
-output_size (Output.Wake none) f = omega arith
-output_size (Output.Wake (some n)) f = simp length_digits (omega arith)
+output_size (Reject None w) f = omega arith
+output_size (Reject (Some (p, s)) w) f = simp length-append (omega (arith, f.size))
+output_size (Output.Wake None) f = omega arith
+output_size (Output.Wake (Some n)) f = simp length_digits (omega arith)
 
 record_size : (o : Output) → length (output_record o) ≡ length (output_bytes o) + 4
 unfolding output_record frame
@@ -203,8 +202,8 @@ stored_fits p b gs [] f k = tt
 stored_fits p b gs (r ∷ s) f k = search (first, here, stored_fits p b gs s f k.1)
   where
     first : (o q : Option Stored) → IfAny StoredFits o → IfAny StoredFits q → IfAny StoredFits (or_else o q)
-    first none q x y = y
-    first (some a) q x y = x
+    first None q x y = y
+    first (Some a) q x y = x
 
     here : IfAny StoredFits (stored_on p b gs r)
     here = if_by (IfAny StoredFits) (indexed p r)
@@ -237,8 +236,8 @@ wake_fits (g ∷ s) f = soonest (next_wake s) (wake_fits s f.1)
     own = option_by Word g.next (λ e. f.0.deadline) (λ n e. if_by Word (ltb n g.deadline) (λ z. if_any Word g.next n e f.0.next) (λ z. f.0.deadline))
 
     soonest : (o : Option ℕ) → IfAny Word o → Word (option o (wake g) (λ n. min (wake g) n))
-    soonest none x = own
-    soonest (some n) x = let w = own in omega arith
+    soonest None x = own
+    soonest (Some n) x = let w = own in omega arith
 
 -- ---- legs that end and holders that go: a leg gives up 286 bytes, a holder 299
 
@@ -259,7 +258,7 @@ spends_both {t} {s} f x y = record {
 }
 
 module _ (t : Table) (k : Widths t) where
-  spends_ends : (g : Leg) → leg_at g.link t ≡ some g → Spends t (ends g t)
+  spends_ends : (g : Leg) → leg_at g.link t ≡ Some g → Spends t (ends g t)
   unfolding ends
   spends_ends g e =
       let f = leg_fits t k g.link g e in
@@ -270,7 +269,7 @@ module _ (t : Table) (k : Widths t) where
   unfolding abandon
   spends_abandon n = option_by (Spends t) (leg_at n t) (λ e. spends_still t k) (λ g e. spends_ends g (own_link t n g e))
 
-  spends_removed : (now : ℕ) (p : Bytes) (h : Held) → Word now → Exactly 16 p → held_at p t ≡ some h → Spends t (removed now p Why.Closed h t)
+  spends_removed : (now : ℕ) (p : Bytes) (h : Held) → Word now → Exactly 16 p → held_at p t ≡ Some h → Spends t (removed now p Why.Closed h t)
   unfolding removed
   spends_removed now p h w q e = record {
     widths = widths_removed t k now p Why.Closed h w e;
@@ -356,7 +355,7 @@ makes_entering p t d k x = if_by R (leb 32 (length t.links)) (λ a. makes_still 
 -- ---- parts of calls
 
 module _ (t : Table) (k : Widths t) where
-  makes_removed : (now : ℕ) (p : Bytes) (why : Why) (h : Held) → Word now → Exactly 16 p → held_at p t ≡ some h → Makes 319 (removed now p why h t)
+  makes_removed : (now : ℕ) (p : Bytes) (why : Why) (h : Held) → Word now → Exactly 16 p → held_at p t ≡ Some h → Makes 319 (removed now p why h t)
   unfolding removed
   makes_removed now p why h w q e =
       let x : ListFits 5 (if closes why then retiring h.link t.links else []) =
@@ -372,7 +371,7 @@ module _ (t : Table) (k : Widths t) where
   unfolding answer
   makes_answer now x b w v f = makes (widths_answer t k now x b w v f) ((k.next, f.msg2), tt) (omega arith)
 
-  makes_promote : (now : ℕ) (p : Bytes) (a : Answered) (g : Leg) (r : LinkRec) → Word now → LegFits g → g.peer ≡ some p → answered g.kind ≡ some a
+  makes_promote : (now : ℕ) (p : Bytes) (a : Answered) (g : Leg) (r : LinkRec) → Word now → LegFits g → g.peer ≡ Some p → answered g.kind ≡ Some a
       → LinkFits r → Makes 108 (promote now p a g r t)
   unfolding promote
   makes_promote now p a g r w f e z y =
@@ -392,7 +391,7 @@ module _ (t : Table) (k : Widths t) where
       let z = retiring_fits h.link (hold g.link (APeer p) t.links) (hold_fits g.link p t.links q k.links) in
       makes (widths_moveto t k p g h from f q x) (record { peer = q; link = f.link; pair = x; lease = f.lease }, (q, ((y.link, z), tt))) (omega (arith, z.size))
 
-  stored_at : (p : Pair) (b : Bytes) (o : Stored) → stored p b t ≡ some o → StoredFits o
+  stored_at : (p : Pair) (b : Bytes) (o : Stored) → stored p b t ≡ Some o → StoredFits o
   unfolding stored
   stored_at p b o e = if_any StoredFits (stored p b t) o e (stored_fits p b t.legs t.links k.legs k.links)
 
@@ -421,7 +420,7 @@ module _ (now : ℕ) (w : Word now) (t : Table) (k : Widths t) where
       (λ e. option_by R (held_at x.peer t) (λ n. makes_entering x.peer t _ k (within 143 (omega arith) (makes_answer t k now x false w v f))) (λ h n. over j h n))
       (λ why e. freed t k x.lease f.peer (omega arith) f.lease)
     where
-      over : (j : Source) (h : Held) → held_at x.peer t ≡ some h → Makes 10_240 (removed now x.peer (displaces j) h (stamp now h t) ▸ answer now x true)
+      over : (j : Source) (h : Held) → held_at x.peer t ≡ Some h → Makes 10_240 (removed now x.peer (displaces j) h (stamp now h t) ▸ answer now x true)
       over j h n =
           let a = makes_removed (stamp now h t) (widths_stamp t k now x.peer h w n) now x.peer (displaces j) h w f.peer n in
           both (answer now x true) a (makes_answer (removed now x.peer (displaces j) h (stamp now h t)).table a.widths now x true w v f) (omega arith)

@@ -1,8 +1,7 @@
 -- Spans and deadlines in nanoseconds: the plain forms, and that the definitions over Duration and Instant equal them.
-use Rattle.std.specs.Prelude.{if◌then◌else◌}
+use Rattle.std.specs.Prelude.{if◌then◌else◌, None, Option, Some}
 use mathlib.Core.Path.{◌≡◌, refl, sym, ap, ◌∙◌}
 use mathlib.Core.Bool.{Bool, true, false, not, ◌&&◌, ◌||◌}
-use mathlib.Core.Option.{Option, none, some}
 use Prim.Native.Nat.{ℕ, ◌+◌, ◌-◌, ◌*◌, ◌%◌, ◌^◌, ◌≤◌, ◌<◌, min}
 use native.Mathlib.Nat.{one-mul}
 use native.Mathlib.Omega.{arith}
@@ -73,7 +72,7 @@ pub shifted : (e : ℕ) → option (checked_shl 1 e) u32_max (λ f. f) ≡ facto
 unfolding checked_shl factor
 shifted e = go (ltb e 32) refl
   where
-    go : (x : Bool) → ltb e 32 ≡ x → option (if x then some ((1 * 2 ^ e) % 2 ^ 32) else none) u32_max (λ f. f) ≡ (if x then 2 ^ e else 2 ^ 32 - 1)
+    go : (x : Bool) → ltb e 32 ≡ x → option (if x then Some ((1 * 2 ^ e) % 2 ^ 32) else None) u32_max (λ f. f) ≡ (if x then 2 ^ e else 2 ^ 32 - 1)
     go true p = shl_one e (ltb-true e 32 p)
     go false p = refl
 
@@ -92,12 +91,12 @@ deadline_sum : (now : ℕ) (d : Duration) → deadline now d ≡ min (now + as_n
 unfolding deadline checked_add
 deadline_sum now d = go (now + as_nanos (shortest d ceiling)) _ refl
   where
-    go : (at : ℕ) (x : Bool) → leb at last_reading ≡ x → option (if x then some at else none) last_reading (λ at. at) ≡ min at last_reading
+    go : (at : ℕ) (x : Bool) → leb at last_reading ≡ x → option (if x then Some at else None) last_reading (λ at. at) ≡ min at last_reading
     go at true e = omega (arith, leb-true at last_reading e)
     go at false e = omega (arith, leb-false at last_reading e)
 
 -- a sum that fits is the deadline, as in the Rust's first turn
-pub deadline_fits : (now at : ℕ) (d : Duration) → checked_add now (shortest d ceiling) ≡ some at → deadline now d ≡ at
+pub deadline_fits : (now at : ℕ) (d : Duration) → checked_add now (shortest d ceiling) ≡ Some at → deadline now d ≡ at
 unfolding deadline
 deadline_fits now at d e = rw e
 
@@ -137,12 +136,12 @@ unfolding silencing
 silencing_last epoch m f = of_silence m.silence f
   where
     of_until : (until : Option ℕ) (b : Bool) → IfAny Word until → option until false (λ u. ltb last_reading u) && b ≡ false
-    of_until none b w = refl
-    of_until (some u) b w = rw (le-ltb last_reading u (omega arith))
+    of_until None b w = refl
+    of_until (Some u) b w = rw (le-ltb last_reading u (omega arith))
 
     of_silence : (s : Option Silence) → IfAny (λ s. IfAny Word s.until) s → option s false (λ s. option s.until false (λ u. ltb last_reading u) && not (differ s.epoch epoch)) ≡ false
-    of_silence none f = refl
-    of_silence (some s) f = of_until s.until (not (differ s.epoch epoch)) f
+    of_silence None f = refl
+    of_silence (Some s) f = of_until s.until (not (differ s.epoch epoch)) f
 
 -- ---- ages
 

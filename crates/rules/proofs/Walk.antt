@@ -1,7 +1,7 @@
 -- The calls gone through once: what each kind of change keeps, every call keeps.
+use Rattle.std.specs.Prelude.{None, Option, Some}
 use mathlib.Core.Path.{◌≡◌, refl}
 use mathlib.Core.Bool.{Bool, true, false, not, ◌&&◌, ◌||◌}
-use mathlib.Core.Option.{Option, none, some}
 use mathlib.Core.List.{List, [], ◌∷◌, map}
 use mathlib.Core.Logic.{◌⊎◌, inl, inr}
 use Prim.Native.Nat.{ℕ, ◌-◌, ◌^◌}
@@ -38,8 +38,8 @@ Brings x y = ((f : Bool) × (x.call ≡ Call.Msg1 y f)) ⊎ (x.call ≡ Call.Rep
 -- the call completes the dial leg g, found at its link, to the peer p
 pub record Completes (x : Timed) (t : Table) (g : Leg) (p : Bytes) (epoch : ℕ) (from : Pair) : Type 0 where
   pub call : x.call ≡ Call.Msg2 g.link epoch from
-  pub leg : leg_at g.link t ≡ some g
-  pub peer : g.peer ≡ some p
+  pub leg : leg_at g.link t ≡ Some g
+  pub peer : g.peer ≡ Some p
 
 -- Each kind of change that the call x makes keeps P. Every field gets the values that x brings, what is known there,
 -- the table before it as a good one, and P of it.
@@ -48,25 +48,25 @@ pub record Closed (P : Table → Type 0) (x : Timed) : Type 0 where
   pub dials : (t : Table) (p : Bytes) (to : Pair) (msg1 : Bytes) (lease : ℕ) → x.call ≡ Call.Dial p to msg1 lease → Numbers t → Room p t → Good t → P t
       → P (dial x.now p to msg1 lease t).table
   -- 4 msg1 and 5 replacement: a peer not held; one whose holder h goes, once stamped
-  pub answers : (t : Table) (y : Hello) → Brings x y → held_at y.peer t ≡ none → Numbers t → Room y.peer t → Good t → P t
+  pub answers : (t : Table) (y : Hello) → Brings x y → held_at y.peer t ≡ None → Numbers t → Room y.peer t → Good t → P t
       → P (answer x.now y false t).table
-  pub stamps : (t : Table) (y : Hello) (h : Held) → Brings x y → held_at y.peer t ≡ some h → Good t → P t → P (stamp x.now h t)
-  pub displaced : (t : Table) (y : Hello) (s : Source) (h : Held) → Brings x y → held_at y.peer t ≡ some h → Numbers t → Good t → P t
+  pub stamps : (t : Table) (y : Hello) (h : Held) → Brings x y → held_at y.peer t ≡ Some h → Good t → P t → P (stamp x.now h t)
+  pub displaced : (t : Table) (y : Hello) (s : Source) (h : Held) → Brings x y → held_at y.peer t ≡ Some h → Numbers t → Good t → P t
       → let u : Table = (removed x.now y.peer (displaces s) h (stamp x.now h t)).table in
       Good u → P u → P (answer x.now y true u).table
   -- 6 sent and 7 unsent: on a dial leg; an answer leg marked; its peer held
   pub resends : (t : Table) (n : ℕ) → Good t → P t → P (with_legs (alter (on_link n) (resent t.params x.now) t.legs) t)
   pub sents : (t : Table) (n : ℕ) → Good t → P t → P (with_legs (alter (on_link n) mark_sent t.legs) t)
   pub unsents : (t : Table) (n : ℕ) → Good t → P t → P (with_legs (alter (on_link n) mark_unsent t.legs) t)
-  pub promotes : (t : Table) (p : Bytes) (a : Answered) (g : Leg) (r : LinkRec) → leg_at g.link t ≡ some g → answered g.kind ≡ some a → g.peer ≡ some p
-      → held_at p t ≡ none → link_at g.link t ≡ some r → Good t → P t → P (promote x.now p a g r t).table
+  pub promotes : (t : Table) (p : Bytes) (a : Answered) (g : Leg) (r : LinkRec) → leg_at g.link t ≡ Some g → answered g.kind ≡ Some a → g.peer ≡ Some p
+      → held_at p t ≡ None → link_at g.link t ≡ Some r → Good t → P t → P (promote x.now p a g r t).table
   -- 8 msg2: the peer not held; its holder h gone; the holder moved
-  pub completes : (t : Table) (p : Bytes) (g : Leg) (epoch : ℕ) (from : Pair) → Completes x t g p epoch from → held_at p t ≡ none → Good t → P t
+  pub completes : (t : Table) (p : Bytes) (g : Leg) (epoch : ℕ) (from : Pair) → Completes x t g p epoch from → held_at p t ≡ None → Good t → P t
       → P (dialed x.now p g epoch from Promote t).table
-  pub replaces : (t : Table) (p : Bytes) (g : Leg) (h : Held) (epoch : ℕ) (from : Pair) → Completes x t g p epoch from → held_at p t ≡ some h → Good t → P t
+  pub replaces : (t : Table) (p : Bytes) (g : Leg) (h : Held) (epoch : ℕ) (from : Pair) → Completes x t g p epoch from → held_at p t ≡ Some h → Good t → P t
       → let u : Table = (removed x.now p Why.OwnRestart h t).table in
-      leg_at g.link u ≡ some g → Good u → P u → P (dialed x.now p g epoch from Replace u).table
-  pub moves : (t : Table) (p : Bytes) (g : Leg) (h : Held) (epoch : ℕ) (from : Pair) → Completes x t g p epoch from → held_at p t ≡ some h → Good t → P t
+      leg_at g.link u ≡ Some g → Good u → P u → P (dialed x.now p g epoch from Replace u).table
+  pub moves : (t : Table) (p : Bytes) (g : Leg) (h : Held) (epoch : ℕ) (from : Pair) → Completes x t g p epoch from → held_at p t ≡ Some h → Good t → P t
       → P (moveto p g h from t).table
   -- 9 restarted, 10 heard
   pub restarts : (t : Table) (p : Bytes) (epoch : ℕ) → x.call ≡ Call.Restarted p epoch → Good t → P t → P (restarted p epoch t).table
@@ -76,22 +76,22 @@ pub record Closed (P : Table → Type 0) (x : Timed) : Type 0 where
       → P (with_links (path n p v t.links) t)
   pub releases : (t : Table) (n : ℕ) (p : Pair) (kept : Bool) → x.call ≡ Call.Release n p kept → Good t → P t → P (with_links (released n p t.links) t)
   -- a leg ends: 2 abandon, 8 msg2, 12 poll; a holder goes: 4, 5, 8, 11 remove, 13 close; all legs end: 13
-  pub leg_ends : (t : Table) (g : Leg) → leg_at g.link t ≡ some g → Good t → P t → P (ends g t).table
-  pub holder_goes : (t : Table) (p : Bytes) (why : Why) (h : Held) → held_at p t ≡ some h → Good t → P t → P (removed x.now p why h t).table
+  pub leg_ends : (t : Table) (g : Leg) → leg_at g.link t ≡ Some g → Good t → P t → P (ends g t).table
+  pub holder_goes : (t : Table) (p : Bytes) (why : Why) (h : Held) → held_at p t ≡ Some h → Good t → P t → P (removed x.now p why h t).table
   pub legs_end : (t : Table) → Good t → P t → P (close_legs t).table
 
 -- ---- one call
 
-not_held : (o : Option Held) → is o ≡ false → o ≡ none
-not_held none e = refl
-not_held (some h) e = cc
+not_held : (o : Option Held) → is o ≡ false → o ≡ None
+not_held None e = refl
+not_held (Some h) e = cc
 
-dialing_peer : (g : Leg) (p : Bytes) → dialing g ≡ some p → g.peer ≡ some p
+dialing_peer : (g : Leg) (p : Bytes) → dialing g ≡ Some p → g.peer ≡ Some p
 dialing_peer g p e = go (answered g.kind) e
   where
-    go : (o : Option Answered) → option o g.peer (λ a. none) ≡ some p → g.peer ≡ some p
-    go none f = f
-    go (some a) f = cc
+    go : (o : Option Answered) → option o g.peer (λ a. None) ≡ Some p → g.peer ≡ Some p
+    go None f = f
+    go (Some a) f = cc
 
 module _ (P : Table → Type 0) (x : Timed) (c : Closed P x) where
   Q : Step → Type 0
@@ -138,7 +138,7 @@ module _ (P : Table → Type 0) (x : Timed) (c : Closed P x) where
       (λ e. option_by R (held_at z.peer t) (λ w. walk_entering z.peer t _ (λ r. c.answers t z b w n r k y) y) (λ h w. over j h w))
       (λ why e. y)
     where
-      over : (j : Source) (h : Held) → held_at z.peer t ≡ some h → P (answer x.now z true (removed x.now z.peer (displaces j) h (stamp x.now h t)).table).table
+      over : (j : Source) (h : Held) → held_at z.peer t ≡ Some h → P (answer x.now z true (removed x.now z.peer (displaces j) h (stamp x.now h t)).table).table
       over j h w =
           let u : Table = stamp x.now h t in
           let ku = good_stamp x.now h t k in
@@ -168,7 +168,7 @@ module _ (P : Table → Type 0) (x : Timed) (c : Closed P x) where
       (λ v. c.replaces t p g h epoch from (known g p e z) w k y (leg_stays x.now p Why.OwnRestart h t g (own_link t n g e)) (fine_removed x.now p Why.OwnRestart h t w k).good (c.holder_goes t p Why.OwnRestart h w k y))
       (λ v. if_by Q (own h t || before t.me p) (λ u. c.moves t p g h epoch from (known g p e z) w k y) (λ u. c.leg_ends t g (own_link t n g e) k y))
     where
-      known : (g : Leg) (p : Bytes) → leg_at n t ≡ some g → dialing g ≡ some p → Completes x t g p epoch from
+      known : (g : Leg) (p : Bytes) → leg_at n t ≡ Some g → dialing g ≡ Some p → Completes x t g p epoch from
       known g p e z = record { call = rw (leg_link t n g e) at q; leg = own_link t n g e; peer = dialing_peer g p z }
 
   walk_add_path : (n : ℕ) (p : Pair) (v : Proven) → x.call ≡ Call.Path n p v → (t : Table) → Good t → P t → R (add_path n p v t)
@@ -196,7 +196,7 @@ module _ (P : Table → Type 0) (x : Timed) (c : Closed P x) where
 
 -- ---- every record, and every list of them
 
-module _ (P : Table → Type 0) (closed : (s : Bytes) (x : Timed) → read_call s ≡ some x → Closed P x) where
+module _ (P : Table → Type 0) (closed : (s : Bytes) (x : Timed) → read_call s ≡ Some x → Closed P x) where
   pub walk : (s : Bytes) (buffer : ℕ) (t : Table) → Good t → P t → P (call s buffer t).step.table
   unfolding call R
   walk s buffer t k y = if_by S (ltb buffer 10_240) (λ e. y)

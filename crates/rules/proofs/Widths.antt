@@ -1,8 +1,7 @@
 -- Every number and every row of bytes of the table stays within its width: what each kind of change keeps.
-use Rattle.std.specs.Prelude.{if◌then◌else◌}
+use Rattle.std.specs.Prelude.{if◌then◌else◌, None, Option, Some}
 use mathlib.Core.Path.{◌≡◌, subst}
 use mathlib.Core.Bool.{Bool, true, false, not, ◌&&◌}
-use mathlib.Core.Option.{Option, none, some}
 use mathlib.Core.List.{List, [], ◌∷◌, ◌++◌}
 use Prim.Native.Nat.{ℕ, ◌+◌, ◌^◌, ◌≤◌, ◌<◌}
 use native.Mathlib.Omega.{arith}
@@ -135,24 +134,24 @@ unsent_fits g x = kind_fits unsent_kind g each x
     each Kind.Dial h = tt
     each (Kind.Answer a) h = record { msg2 = h.msg2; ephemeral = h.ephemeral; epoch = h.epoch }
 
-pub answered_fits : (k : Kind) (a : Answered) → answered k ≡ some a → KindFits k → AnsweredFits a
+pub answered_fits : (k : Kind) (a : Answered) → answered k ≡ Some a → KindFits k → AnsweredFits a
 answered_fits Kind.Dial a e x = contra (cc)
 answered_fits (Kind.Answer b) a e x = let z : b ≡ a = cc in subst AnsweredFits z x
 
-pub if_any : {A : Type 0} (P : A → Type 0) (o : Option A) (a : A) → o ≡ some a → IfAny P o → P a
-if_any P none a e x = contra (cc)
-if_any P (some b) a e x = let z : b ≡ a = cc in subst P z x
+pub if_any : {A : Type 0} (P : A → Type 0) (o : Option A) (a : A) → o ≡ Some a → IfAny P o → P a
+if_any P None a e x = contra (cc)
+if_any P (Some b) a e x = let z : b ≡ a = cc in subst P z x
 
 -- ---- the table
 
 module _ (t : Table) (k : Widths t) where
-  pub leg_fits : (n : ℕ) (g : Leg) → leg_at n t ≡ some g → LegFits g
+  pub leg_fits : (n : ℕ) (g : Leg) → leg_at n t ≡ Some g → LegFits g
   leg_fits n g e = all_find LegFits (on_link n) t.legs g e k.legs
 
-  pub held_fits : (p : Bytes) (h : Held) → held_at p t ≡ some h → HeldFits h
+  pub held_fits : (p : Bytes) (h : Held) → held_at p t ≡ Some h → HeldFits h
   held_fits p h e = all_find HeldFits (named p) t.held h e k.held
 
-  pub link_fits : (n : ℕ) (r : LinkRec) → link_at n t ≡ some r → LinkFits r
+  pub link_fits : (n : ℕ) (r : LinkRec) → link_at n t ≡ Some r → LinkFits r
   link_fits n r e = all_find LinkFits (numbered n) t.links r e k.links
 
   widths_gates : (s : List Memory) → All (MemoryFits t.params) s → Widths (with_gates s t)
@@ -201,9 +200,9 @@ module _ (t : Table) (k : Widths t) where
   parted_fits now h w x = if_by (All (MemoryFits t.params)) h.heard (λ z. k.gates)
       (λ z.
       let y = sizes_memory t.params h.peer t.gates x.peer k.gates in
-      store_fits t.params _ t.gates (ended_sizes t.params now w k.params (some h.epoch) h.setup _ x.epoch x.setup y) k.gates)
+      store_fits t.params _ t.gates (ended_sizes t.params now w k.params (Some h.epoch) h.setup _ x.epoch x.setup y) k.gates)
 
-  pub widths_removed : (now : ℕ) (p : Bytes) (why : Why) (h : Held) → Word now → held_at p t ≡ some h → Widths (removed now p why h t).table
+  pub widths_removed : (now : ℕ) (p : Bytes) (why : Why) (h : Held) → Word now → held_at p t ≡ Some h → Widths (removed now p why h t).table
   unfolding removed
   widths_removed now p why h w e = record {
     me = k.me;
@@ -215,7 +214,7 @@ module _ (t : Table) (k : Widths t) where
     gates = parted_fits now h w (held_fits p h e);
   }
 
-  pub widths_stamp : (now : ℕ) (p : Bytes) (h : Held) → Word now → held_at p t ≡ some h → Widths (stamp now h t)
+  pub widths_stamp : (now : ℕ) (p : Bytes) (h : Held) → Word now → held_at p t ≡ Some h → Widths (stamp now h t)
   unfolding stamp
   widths_stamp now p h w e =
       let x = held_fits p h e in
@@ -233,7 +232,7 @@ module _ (t : Table) (k : Widths t) where
     gates = y;
   }
 
-  pub widths_promote : (now : ℕ) (p : Bytes) (a : Answered) (g : Leg) (r : LinkRec) → Word now → LegFits g → g.peer ≡ some p → answered g.kind ≡ some a
+  pub widths_promote : (now : ℕ) (p : Bytes) (a : Answered) (g : Leg) (r : LinkRec) → Word now → LegFits g → g.peer ≡ Some p → answered g.kind ≡ Some a
       → LinkFits r → Widths (promote now p a g r t).table
   unfolding promote
   widths_promote now p a g r w x e f y =

@@ -1,21 +1,20 @@
 -- Branches, options and lists, as the definitions use them.
-use Rattle.std.specs.Prelude.{Bool, true, false, ◌&&◌, ◌||◌, List, [], ◌∷◌, ℕ, ◌+◌, eqb, if◌then◌else◌}
-use Rattle.std.proofs.Math.Option.{Option, none, some}
+use Rattle.std.specs.Prelude.{Bool, true, false, ◌&&◌, ◌||◌, List, [], ◌∷◌, ℕ, ◌+◌, eqb, if◌then◌else◌, None, Option, Some}
 
 -- `let Some(a) = o else { x }`, then f a
-abbrev pub option {ℓ κ} : {A : Type ℓ} {B : Type κ} → Option A → B → (A → B) → B
-option none x f = x
-option (some a) x f = f a
+abbrev pub option {κ} : {A : Type 0} {B : Type κ} → Option A → B → (A → B) → B
+option None x f = x
+option (Some a) x f = f a
 
 -- whether there is one
-abbrev pub is {ℓ} : {A : Type ℓ} → Option A → Bool
-is none = false
-is (some a) = true
+abbrev pub is : {A : Type 0} → Option A → Bool
+is None = false
+is (Some a) = true
 
 -- the first, or else the second
 abbrev pub or_else : {A : Type 0} → Option A → Option A → Option A
-or_else none b = b
-or_else (some a) b = some a
+or_else None b = b
+or_else (Some a) b = Some a
 
 -- bytes, each below 256; a peer has 16, a digest 32
 abbrev pub Bytes : Type 0
@@ -35,8 +34,8 @@ empty (a ∷ s) = false
 module _ {A : Type 0} (test : A → Bool) where
   -- the first that passes
   abbrev pub find : List A → Option A
-  find [] = none
-  find (a ∷ s) = if test a then some a else find s
+  find [] = None
+  find (a ∷ s) = if test a then Some a else find s
 
   -- the list without the first that passes
   abbrev pub without : List A → List A

@@ -1,6 +1,5 @@
 -- What holds of every table that new or a call left: the limits of document 01, and each number within its width.
-use Rattle.std.specs.Prelude.{◌≡◌, Bool, true, ◌&&◌, ℕ, ◌+◌, ◌^◌, ◌≤◌, ◌<◌, ltb, length}
-use Rattle.std.proofs.Math.Option.{Option, none, some}
+use Rattle.std.specs.Prelude.{◌≡◌, Bool, true, ◌&&◌, ℕ, ◌+◌, ◌^◌, ◌≤◌, ◌<◌, ltb, length, None, Option, Some}
 use Rattle.rules.specs.Base.{Bytes, All, tally, one}
 use Rattle.rules.specs.Std.{Ascending}
 use Rattle.rules.specs.Time.{Params}
@@ -26,8 +25,8 @@ pub record AtMost (n : ℕ) (s : Bytes) : Type 0 where
 
 -- what holds of the value, if there is one
 abbrev pub IfAny : {A : Type 0} → (A → Type 0) → Option A → Type 0
-IfAny P none = Unit {0}
-IfAny P (some a) = P a
+IfAny P None = Unit {0}
+IfAny P (Some a) = P a
 
 abbrev pub Word : ℕ → Type 0
 Word v = v < 2 ^ 64

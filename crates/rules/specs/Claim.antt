@@ -1,7 +1,6 @@
 -- Demand 3: a lease is never lost and never doubled, each live link has one owner, and nothing in use is closed.
 -- What that says of a list of calls, each a record with the length of the buffer lent with it.
-use Rattle.std.specs.Prelude.{◌≡◌, false, List, [], ◌∷◌, ℕ, ◌+◌, ◌≤◌, eqb, if◌then◌else◌}
-use Rattle.std.proofs.Math.Option.{Option, none, some}
+use Rattle.std.specs.Prelude.{◌≡◌, false, List, [], ◌∷◌, ℕ, ◌+◌, ◌≤◌, eqb, if◌then◌else◌, None, Option, Some}
 use Rattle.rules.specs.Base.{option, Bytes, tally, one, All}
 use Rattle.rules.specs.Data.{Pair, LinkRec, Table, Call, Output, Step, Result, Opened, Resend, Rekey, Install, Reset, Retire, Free, Retry, Reject}
 use Rattle.rules.specs.Links.{numbered, in_use}
@@ -26,25 +25,25 @@ play (x ∷ s) t = (answer x t).step ▸ play s
 
 -- the lease of a dial, a msg1 or a replacement
 abbrev pub lease_of : Call → Option ℕ
-lease_of (Call.Dial p to m l) = some l
-lease_of (Call.Msg1 x f) = some x.lease
-lease_of (Call.Replacement x) = some x.lease
-lease_of (Call.Abandon n) = none
-lease_of (Call.Arrived p m) = none
-lease_of (Call.Sent n) = none
-lease_of (Call.Unsent n) = none
-lease_of (Call.Msg2 n e p) = none
-lease_of (Call.Restarted p e) = none
-lease_of (Call.Heard p f) = none
-lease_of (Call.Remove p w) = none
-lease_of Call.Poll = none
-lease_of Call.Close = none
-lease_of (Call.Path n p v) = none
-lease_of (Call.Release n p k) = none
-lease_of Call.Wake = none
+lease_of (Call.Dial p to m l) = Some l
+lease_of (Call.Msg1 x f) = Some x.lease
+lease_of (Call.Replacement x) = Some x.lease
+lease_of (Call.Abandon n) = None
+lease_of (Call.Arrived p m) = None
+lease_of (Call.Sent n) = None
+lease_of (Call.Unsent n) = None
+lease_of (Call.Msg2 n e p) = None
+lease_of (Call.Restarted p e) = None
+lease_of (Call.Heard p f) = None
+lease_of (Call.Remove p w) = None
+lease_of Call.Poll = None
+lease_of Call.Close = None
+lease_of (Call.Path n p v) = None
+lease_of (Call.Release n p k) = None
+lease_of Call.Wake = None
 
 abbrev pub lease_in : Fed → Option ℕ
-lease_in x = option (read_call x.bytes) none λ c. lease_of c.call
+lease_in x = option (read_call x.bytes) None λ c. lease_of c.call
 
 -- one, if it is the lease l
 abbrev pub is_lease : ℕ → Option ℕ → ℕ

@@ -1,6 +1,5 @@
 -- The table's shapes, named as in the Rust: pairs, link records, legs, held peers, the gates' memories, calls and outputs.
-use Rattle.std.specs.Prelude.{Bool, ◌&&◌, List, ℕ, eqb}
-use Rattle.std.proofs.Math.Option.{Option}
+use Rattle.std.specs.Prelude.{Bool, ◌&&◌, List, ℕ, eqb, Option}
 use Rattle.rules.specs.Base.{Bytes, same}
 use Rattle.rules.specs.Time.{Params}
 

@@ -1,7 +1,5 @@
 -- The fields of records and outputs: how each is read, and how it is spelt. Integers are unsigned, big-endian.
-use Rattle.std.specs.Prelude.{Bool, true, false, List, [], ◌∷◌, ◌++◌, ℕ, zero, suc, ◌+◌, ◌*◌, ◌/◌, ◌%◌, leb, length, take, drop, if◌then◌else◌}
-use Rattle.std.proofs.Math.Option.{Option, none, some}
-use Rattle.std.proofs.Math.ListN.{get_elem?}
+use Rattle.std.specs.Prelude.{Bool, true, false, List, [], ◌∷◌, ◌++◌, ℕ, zero, suc, ◌+◌, ◌*◌, ◌/◌, ◌%◌, leb, length, take, drop, if◌then◌else◌, None, Option, Some, slice_get}
 use Rattle.rules.specs.Base.{option, one, Bytes}
 use Rattle.rules.specs.Data.{Pair, Proven, Live, Acked, Probing, Why, Ended, Orphaned, Disconnect, Dead, Admin, Closed, OwnRestart}
 
@@ -23,28 +21,28 @@ abbrev pub Reader : Type 0 → Type 0
 Reader A = Bytes → Option (A × Bytes)
 
 abbrev pub give : {A : Type 0} → A → Reader A
-give a s = some (a, s)
+give a s = Some (a, s)
 
 abbrev pub fail : {A : Type 0} → Reader A
-fail s = none
+fail s = None
 
 -- p, then what k makes of its value; each is handed the rest of the record from its first byte
 unfoldable pub bind : {A B : Type 0} → Reader A → (A → Reader B) → Reader B
-bind p k s = option (p s) none λ r. k r.0 r.1
+bind p k s = option (p s) None λ r. k r.0 r.1
 
 unfoldable pub bytes : ℕ → Reader Bytes
-bytes n s = if leb n (length s) then some (take n s, drop n s) else none
+bytes n s = if leb n (length s) then Some (take n s, drop n s) else None
 
 unfoldable pub number : ℕ → Reader ℕ
-number n s = if leb n (length s) then some (more 0 (take n s), drop n s) else none
+number n s = if leb n (length s) then Some (more 0 (take n s), drop n s) else None
 
 -- n bytes, where n is within the limit
 unfoldable pub up_to : ℕ → ℕ → Reader Bytes
-up_to limit n s = if leb n limit then bytes n s else none
+up_to limit n s = if leb n limit then bytes n s else None
 
 -- a code byte: a place in the list of what it may say
 unfoldable pub code : {A : Type 0} → List A → Reader A
-code meanings = bind (number 1) λ k s. option (get_elem? meanings k) none λ a. some (a, s)
+code meanings = bind (number 1) λ k s. option (slice_get meanings k) None λ a. Some (a, s)
 
 -- ---- fields
 

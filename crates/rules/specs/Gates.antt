@@ -1,6 +1,5 @@
 -- The gates: what is remembered of a peer, the judgement of a msg1, and what changes a memory (gates.rs).
-use Rattle.std.specs.Prelude.{Bool, true, false, not, ◌&&◌, ◌||◌, ℕ, ◌-◌, eqb, leb, ltb, length, if◌then◌else◌}
-use Rattle.std.proofs.Math.Option.{Option, none, some}
+use Rattle.std.specs.Prelude.{Bool, true, false, not, ◌&&◌, ◌||◌, ℕ, ◌-◌, eqb, leb, ltb, length, if◌then◌else◌, None, Option, Some}
 use mathlib.Core.List.{List, [], ◌∷◌, ◌++◌, tail}
 use Rattle.rules.specs.Base.{option, is, or_else, Bytes, same, empty, find, without, any, keep}
 use Rattle.rules.specs.Std.{from_nanos, saturating_add, before, insert}
@@ -10,7 +9,7 @@ use Rattle.rules.specs.Data.{Memory, Replay, Silence, Held, Source, Refusal, Unh
 -- ---- memories
 
 abbrev pub blank : Bytes → Memory
-blank p = record { peer = p; stamp = none; replays = []; silence = none }
+blank p = record { peer = p; stamp = None; replays = []; silence = None }
 
 -- a stamp, a replay or a silence
 abbrev pub remembers : Memory → Bool
@@ -36,9 +35,9 @@ recent c now was = younger c.interval now was
 
 -- both there, and unequal
 abbrev pub differ : Option ℕ → Option ℕ → Bool
-differ none b = false
-differ (some a) none = false
-differ (some a) (some b) = not (eqb a b)
+differ None b = false
+differ (Some a) None = false
+differ (Some a) (Some b) = not (eqb a b)
 
 -- ---- the judgement
 
@@ -57,22 +56,22 @@ recent_replays c now s = keep (λ r. recent c now r.seen) s
 unfoldable pub replayed : Params → ℕ → Bytes → Memory → Option Refusal
 replayed c now e m =
     let live : List Replay = recent_replays c now m.replays in
-    if seen_in e live then some Replayed
-    else (if leb c.replays (length live) then some ReplayFull else none)
+    if seen_in e live then Some Replayed
+    else (if leb c.replays (length live) then Some ReplayFull else None)
 
 -- Unheard if now - installed < unheard, or Heard if now - (last, else installed) < interval
 unfoldable pub young : Params → ℕ → Held → Option Refusal
 young c now h =
-    if h.heard then (if recent c now (option h.last h.installed (λ l. l)) then some Refusal.Heard else none)
-    else (if younger c.unheard now h.installed then some Unheard else none)
+    if h.heard then (if recent c now (option h.last h.installed (λ l. l)) then Some Refusal.Heard else None)
+    else (if younger c.unheard now h.installed then Some Unheard else None)
 
 -- Dampened if the stamp is younger than interval
 unfoldable pub dampened : Params → ℕ → Memory → Option Refusal
-dampened c now m = if option m.stamp false (λ s. recent c now s) then some Dampened else none
+dampened c now m = if option m.stamp false (λ s. recent c now s) then Some Dampened else None
 
 unfoldable pub judge : Params → ℕ → Option Bytes → Held → Memory → Option Refusal
 judge c now e h m =
-    or_else (if h.heard then none else option e none (λ d. replayed c now d m))
+    or_else (if h.heard then None else option e None (λ d. replayed c now d m))
     (or_else (young c now h) (dampened c now m))
 
 abbrev pub asks_silence : Source → Bool
@@ -96,17 +95,17 @@ gated Source.RekeyMsg2 = false
 
 -- the other judgements, of the holder that would go
 unfoldable pub judged : Params → ℕ → Source → Option Held → Bytes → Memory → Option Refusal
-judged c now s o e m = option o none λ h. if gated s then judge c now (some e) h m else none
+judged c now s o e m = option o None λ h. if gated s then judge c now (Some e) h m else None
 
 -- ---- what changes a memory
 
 -- passing over a heard holder sets the stamp
 abbrev pub stamped : ℕ → Memory → Memory
-stamped now m = record { peer = m.peer; stamp = some now; replays = m.replays; silence = m.silence }
+stamped now m = record { peer = m.peer; stamp = Some now; replays = m.replays; silence = m.silence }
 
 -- heard clears replays and silence, never the stamp
 unfoldable pub clear : Memory → Memory
-clear m = record { peer = m.peer; stamp = m.stamp; replays = []; silence = none }
+clear m = record { peer = m.peer; stamp = m.stamp; replays = []; silence = None }
 
 -- the replays no longer younger than interval are dropped
 unfoldable pub prune : Params → ℕ → Memory → Memory
@@ -132,7 +131,7 @@ expired c now s = leb (deadline (option s.until s.last (λ u. u)) (from_nanos c.
 -- the record that an ending is counted in: the one there, or anew
 unfoldable pub counting : Params → ℕ → Option ℕ → Option Silence → Silence
 counting c now epoch s =
-    let new : Silence = record { epoch = epoch; count = 0; last = now; until = none; counted = [] } in
+    let new : Silence = record { epoch = epoch; count = 0; last = now; until = None; counted = [] } in
     option s new λ r. if expired c now r || differ r.epoch epoch then new
     else record { epoch = or_else r.epoch epoch; count = r.count; last = r.last; until = r.until; counted = r.counted }
 
@@ -149,7 +148,7 @@ silenced c now setup r =
       count = n;
       last = now;
       until = if ltb n c.silent then r.until
-          else some (deadline now (backoff (n - c.silent) (from_nanos c.silentbase) (from_nanos c.silentcap)));
+          else Some (deadline now (backoff (n - c.silent) (from_nanos c.silentbase) (from_nanos c.silentcap)));
       counted = counted_with c setup r.counted;
     }
 
@@ -158,4 +157,4 @@ unfoldable pub ended : Params → ℕ → Option ℕ → Option Bytes → Memory
 ended c now epoch setup m =
     let r : Silence = counting c now epoch m.silence in
     let seen : Bool = option setup false λ e. any (same e) r.counted in
-    record { peer = m.peer; stamp = m.stamp; replays = m.replays; silence = some (if seen then r else silenced c now setup r) }
+    record { peer = m.peer; stamp = m.stamp; replays = m.replays; silence = Some (if seen then r else silenced c now setup r) }

@@ -1,6 +1,5 @@
 -- Handshake legs: how they start, resend, wake and end (legs.rs).
-use Rattle.std.specs.Prelude.{Bool, true, false, not, ◌||◌, List, [], ◌∷◌, map, ℕ, min, eqb, leb, ltb, length, if◌then◌else◌}
-use Rattle.std.proofs.Math.Option.{Option, none, some}
+use Rattle.std.specs.Prelude.{Bool, true, false, not, ◌||◌, List, [], ◌∷◌, map, ℕ, min, eqb, leb, ltb, length, if◌then◌else◌, None, Option, Some}
 use Rattle.rules.specs.Base.{option, is, Bytes, same, keep}
 use Rattle.rules.specs.Std.{from_nanos, duration_max, saturating_add}
 use Rattle.rules.specs.Time.{Params, backoff, deadline}
@@ -10,25 +9,25 @@ abbrev pub on_link : ℕ → Leg → Bool
 on_link n g = eqb n g.link
 
 abbrev pub answered : Kind → Option Answered
-answered Kind.Dial = none
-answered (Kind.Answer a) = some a
+answered Kind.Dial = None
+answered (Kind.Answer a) = Some a
 
 abbrev pub answers : Leg → Bool
 answers g = is (answered g.kind)
 
 -- the peer that a dial leg dialed
 abbrev pub dialing : Leg → Option Bytes
-dialing g = option (answered g.kind) g.peer λ a. none
+dialing g = option (answered g.kind) g.peer λ a. None
 
 -- `dial`
 unfoldable pub dial_leg : Params → ℕ → ℕ → Bytes → Bytes → ℕ → Leg
 dial_leg c now n p msg1 lease = record {
   link = n;
-  peer = some p;
+  peer = Some p;
   kind = Kind.Dial;
   msg1 = msg1;
   sent = 0;
-  next = if ltb 0 c.resends then some (deadline now (from_nanos c.resend)) else none;
+  next = if ltb 0 c.resends then Some (deadline now (from_nanos c.resend)) else None;
   deadline = deadline now (from_nanos c.handshake);
   lease = lease;
 }
@@ -37,19 +36,19 @@ dial_leg c now n p msg1 lease = record {
 unfoldable pub answer_leg : Params → ℕ → ℕ → Hello → Bool → Leg
 answer_leg c now n x replaces = record {
   link = n;
-  peer = some x.peer;
+  peer = Some x.peer;
   kind = Kind.Answer (record { msg2 = x.msg2; ephemeral = x.ephemeral; epoch = x.epoch; replaces = replaces; sent = false });
   msg1 = x.bytes;
   sent = 0;
-  next = none;
+  next = None;
   deadline = deadline now (from_nanos c.handshake);
   lease = x.lease;
 }
 
 -- An answer leg not yet sent yields its msg2 for any bytes, a sent one only for equal msg1 bytes.
 unfoldable pub stored_msg2 : Bytes → Leg → Option Bytes
-stored_msg2 bytes g = option (answered g.kind) none λ a.
-    if not a.sent || same bytes g.msg1 then some a.msg2 else none
+stored_msg2 bytes g = option (answered g.kind) None λ a.
+    if not a.sent || same bytes g.msg1 then Some a.msg2 else None
 
 -- how many answer legs there are
 unfoldable pub answering : List Leg → ℕ
@@ -65,7 +64,7 @@ resent c now g =
       kind = g.kind;
       msg1 = g.msg1;
       sent = n;
-      next = if ltb n c.resends then some (deadline now (backoff n (from_nanos c.resend) duration_max)) else none;
+      next = if ltb n c.resends then Some (deadline now (backoff n (from_nanos c.resend) duration_max)) else None;
       deadline = g.deadline;
       lease = g.lease;
     }
@@ -107,5 +106,5 @@ wake g = option g.next g.deadline λ n. if ltb n g.deadline then n else g.deadli
 
 -- `next_wake`, the earliest
 unfoldable pub next_wake : List Leg → Option ℕ
-next_wake [] = none
-next_wake (g ∷ s) = some (option (next_wake s) (wake g) λ n. min (wake g) n)
+next_wake [] = None
+next_wake (g ∷ s) = Some (option (next_wake s) (wake g) λ n. min (wake g) n)

@@ -1,6 +1,5 @@
 -- The bytes of the outputs 1 to 14, and of Done.
-use Rattle.std.proofs.Math.Option.{Option, none, some}
-use Rattle.std.specs.Prelude.{List, [], ◌∷◌, ◌++◌, ℕ, length}
+use Rattle.std.specs.Prelude.{List, [], ◌∷◌, ◌++◌, ℕ, length, None, Option, Some}
 use Rattle.rules.specs.Base.{Bytes}
 use Rattle.rules.specs.Data.{Pair, Source, Refusal, Denial, Full, Gate, Build, Fresh, FromCarry, Transition, Promote, Replace, Move, Keep, Roam, Installed, Output, Opened, Resend, Rekey, Install, Reset, Retire, Free, Retry, Reject, NotHeld, OwnMsg2, RekeyMsg2, Unheard, Dampened, Replayed, ReplayFull, Silent}
 use Rattle.rules.specs.Field.{digits, flag_bytes, pair_bytes, message_bytes, why_code, frame}
@@ -51,13 +50,13 @@ list_bytes s = digits 1 (length s) ++ pairs_bytes s
 
 -- a flag, then with 1 peer and source
 abbrev pub asker_bytes : Option (Bytes × Source) → Bytes
-asker_bytes none = 0 ∷ []
-asker_bytes (some (p, s)) = 1 ∷ (p ++ (source_code s ∷ []))
+asker_bytes None = 0 ∷ []
+asker_bytes (Some (p, s)) = 1 ∷ (p ++ (source_code s ∷ []))
 
 -- a flag, with 1 a time of 8
 abbrev pub time_bytes : Option ℕ → Bytes
-time_bytes none = 0 ∷ []
-time_bytes (some at) = 1 ∷ digits 8 at
+time_bytes None = 0 ∷ []
+time_bytes (Some at) = 1 ∷ digits 8 at
 
 unfoldable pub install_bytes : Installed → Bytes
 install_bytes i =

@@ -1,7 +1,5 @@
 -- A record arrives: the bytes of new and of a call, as they are read and as they are spelt.
-use Rattle.std.specs.Prelude.{◌&&◌, List, [], ◌∷◌, ◌++◌, ℕ, ◌+◌, eqb, length, if◌then◌else◌}
-use Rattle.std.proofs.Math.Option.{Option, none, some}
-use Rattle.std.proofs.Math.ListN.{get_elem?}
+use Rattle.std.specs.Prelude.{◌&&◌, List, [], ◌∷◌, ◌++◌, ℕ, ◌+◌, eqb, length, if◌then◌else◌, None, Option, Some, slice_get}
 use Rattle.rules.specs.Base.{option, Bytes}
 use Rattle.rules.specs.Time.{Params, default}
 use Rattle.rules.specs.Data.{Hello, Call}
@@ -63,7 +61,7 @@ pub record Timed : Type 0 where
 
 -- A call's first field is the clock.
 unfoldable pub timed : ℕ → Reader Timed
-timed k = bind clock λ now. bind (option (get_elem? kinds k) fail (λ f. f)) λ c. give (record { now = now; call = c })
+timed k = bind clock λ now. bind (option (slice_get kinds k) fail (λ f. f)) λ c. give (record { now = now; call = c })
 
 -- new: its clock, which nothing reads, me, first link number, settings
 pub record Begin : Type 0 where
@@ -105,9 +103,9 @@ begin k = if eqb k 17 then begin_fields else fail
 
 -- nothing left over
 abbrev pub finished : {A : Type 0} → Option (A × Bytes) → Option A
-finished none = none
-finished (some (a, [])) = some a
-finished (some (a, b ∷ s)) = none
+finished None = None
+finished (Some (a, [])) = Some a
+finished (Some (a, b ∷ s)) = None
 
 -- length (of what follows), version 1, kind, fields, and nothing more
 unfoldable pub framed : {A : Type 0} → (ℕ → Reader A) → Bytes → Option A
@@ -173,8 +171,8 @@ settings_bytes c =
 
 -- form 0 says nothing of the settings
 unfoldable pub form_bytes : Option Params → Bytes
-form_bytes none = 0 ∷ []
-form_bytes (some c) = 1 ∷ settings_bytes c
+form_bytes None = 0 ∷ []
+form_bytes (Some c) = 1 ∷ settings_bytes c
 
 unfoldable pub spell_new : ℕ → Bytes → ℕ → Option Params → Bytes
 spell_new now me first form = frame 17 (digits 8 now ++ me ++ digits 8 first ++ form_bytes form)

@@ -1,6 +1,5 @@
 -- The sixteen calls (table.rs). Each takes the table to a step: the table after it, and the outputs in the order in which the Rust pushes them.
-use Rattle.std.specs.Prelude.{Bool, true, false, not, ◌&&◌, ◌||◌, List, [], ◌∷◌, ◌++◌, map, ℕ, ◌+◌, ◌-◌, ◌^◌, eqb, leb, length, if◌then◌else◌}
-use Rattle.std.proofs.Math.Option.{Option, none, some}
+use Rattle.std.specs.Prelude.{Bool, true, false, not, ◌&&◌, ◌||◌, List, [], ◌∷◌, ◌++◌, map, ℕ, ◌+◌, ◌-◌, ◌^◌, eqb, leb, length, if◌then◌else◌, None, Option, Some}
 use Rattle.rules.specs.Base.{option, is, or_else, Bytes, same, empty, find, without, alter, any}
 use Rattle.rules.specs.Std.{before, insert}
 use Rattle.rules.specs.Data.{Pair, same_pair, Dir, Inbound, Outbound, APeer, Proven, LinkRec, Answered, Leg, Held, Memory, Table, Hello, Call, Source, Why, Denial, Full, Gate, Fresh, FromCarry, Transition, Installed, Output, Step, Result}
@@ -132,12 +131,12 @@ pub record Stored : Type 0 where
 -- what a link yields that is indexed at the pair
 unfoldable pub stored_on : Pair → Bytes → List Leg → LinkRec → Option Stored
 stored_on p bytes s r =
-    if indexed p r then option (find (on_link r.no) s) none (λ g. option (stored_msg2 bytes g) none λ m. some (record { link = r.no; msg2 = m }))
-    else none
+    if indexed p r then option (find (on_link r.no) s) None (λ g. option (stored_msg2 bytes g) None λ m. Some (record { link = r.no; msg2 = m }))
+    else None
 
 -- The newest link, that of the highest number and so the last of the list, that yields a stored msg2 ends the search.
 unfoldable pub stored_in : Pair → Bytes → List Leg → List LinkRec → Option Stored
-stored_in p bytes s [] = none
+stored_in p bytes s [] = None
 stored_in p bytes s (r ∷ rs) = or_else (stored_in p bytes s rs) (stored_on p bytes s r)
 
 unfoldable pub stored : Pair → Bytes → Table → Option Stored
@@ -149,7 +148,7 @@ full t = leb t.params.pending (answering t.legs)
 
 -- the stored Answer, else a Reject with flag 0 if Full holds, else nothing
 unfoldable pub arrived : Pair → Bytes → Table → Step
-arrived p bytes t = option (stored p bytes t) (writes (if full t then Reject none Full ∷ [] else []) t) λ o.
+arrived p bytes t = option (stored p bytes t) (writes (if full t then Reject None Full ∷ [] else []) t) λ o.
     writes (Output.Answer o.link true o.msg2 ∷ []) t
 
 -- ---- 11 remove
@@ -182,7 +181,7 @@ retries Why.Closed = false
 unfoldable pub parted : ℕ → Held → Table → List Memory
 parted now h t =
     if h.heard then t.gates
-    else store (ended t.params now (some h.epoch) h.setup (memory h.peer t.gates)) t.gates
+    else store (ended t.params now (Some h.epoch) h.setup (memory h.peer t.gates)) t.gates
 
 -- the holder h of the peer goes, and its link
 unfoldable pub removed : ℕ → Bytes → Why → Held → Table → Step
@@ -201,14 +200,14 @@ remove now p why t = option (held_at p t) (still t) λ h. removed now p why h t
 unfoldable pub denied : ℕ → Source → Hello → Table → Option Denial
 denied now s x t =
     let m : Memory = memory x.peer t.gates in
-    if silenced_for now s (some x.epoch) m then some (Gate Silent)
-    else (if full t then some Full
-    else option (judged t.params now s (held_at x.peer t) x.ephemeral m) none λ r. some (Gate r))
+    if silenced_for now s (Some x.epoch) m then Some (Gate Silent)
+    else (if full t then Some Full
+    else option (judged t.params now s (held_at x.peer t) x.ephemeral m) None λ r. Some (Gate r))
 
 -- a peer not held is judged, and rejected, as NotHeld
 abbrev pub asked : Source → Option Held → Source
-asked s none = Source.NotHeld
-asked s (some h) = s
+asked s None = Source.NotHeld
+asked s (Some h) = s
 
 -- why the holder is removed
 abbrev pub displaces : Source → Why
@@ -237,7 +236,7 @@ unfoldable pub admit : ℕ → Source → Hello → Table → Result
 admit now s x t =
     let k : Source = asked s (held_at x.peer t) in
     option (denied now k x t) (admitted now k x t) λ why.
-    ok (writes (Reject (some (x.peer, k)) why ∷ Free x.lease ∷ []) t)
+    ok (writes (Reject (Some (x.peer, k)) why ∷ Free x.lease ∷ []) t)
 
 -- the pair is the held link's setup, the current pair, or a Live or Acked path
 unfoldable pub attributed : Held → Pair → Table → Bool
@@ -261,7 +260,7 @@ installs g h t = with_held (insert earlier_held h t.held) (with_links (hold g.li
 -- the answer a to the peer was sent: it is held, unheard
 unfoldable pub promote : ℕ → Bytes → Answered → Leg → LinkRec → Table → Step
 promote now p a g r t =
-    let h : Held = record { peer = p; link = g.link; epoch = a.epoch; current = r.setup; heard = false; installed = now; last = none; setup = some a.ephemeral } in
+    let h : Held = record { peer = p; link = g.link; epoch = a.epoch; current = r.setup; heard = false; installed = now; last = None; setup = Some a.ephemeral } in
     let i : Installed = record { peer = p; link = g.link; pair = r.setup; build = Fresh; initiator = false; lease = g.lease } in
     let m : Memory = promoted t.params now a.ephemeral (memory p t.gates) in
     writes (Install i ∷ Reset p (if a.replaces then Replace else Promote) ∷ []) (with_gates (store m t.gates) (installs g h t))
@@ -282,7 +281,7 @@ unsent n t = still (with_legs (alter (on_link n) mark_unsent t.legs) t)
 -- the dial is complete: the peer is held, heard
 unfoldable pub dialed : ℕ → Bytes → Leg → ℕ → Pair → Transition → Table → Step
 dialed now p g epoch from how t =
-    let h : Held = record { peer = p; link = g.link; epoch = epoch; current = from; heard = true; installed = now; last = none; setup = none } in
+    let h : Held = record { peer = p; link = g.link; epoch = epoch; current = from; heard = true; installed = now; last = None; setup = None } in
     let i : Installed = record { peer = p; link = g.link; pair = from; build = Fresh; initiator = true; lease = g.lease } in
     writes (Install i ∷ Reset p how ∷ []) (installs g h t)
 
@@ -324,7 +323,7 @@ restarted p epoch t = option (held_at p t) (still t) λ h.
     writes (Reset p Transition.Restarted ∷ []) (with_held (alter (named p) (with_epoch epoch) t.held) t)
 
 abbrev pub heard_from : ℕ → Pair → Held → Held
-heard_from now from h = record { peer = h.peer; link = h.link; epoch = h.epoch; current = from; heard = true; installed = h.installed; last = some now; setup = h.setup }
+heard_from now from h = record { peer = h.peer; link = h.link; epoch = h.epoch; current = from; heard = true; installed = h.installed; last = Some now; setup = h.setup }
 
 -- marks the peer heard, sets last to now, and takes a differing pair as current
 unfoldable pub heard : ℕ → Bytes → Pair → Table → Step

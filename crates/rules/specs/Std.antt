@@ -1,6 +1,5 @@
 -- What the documentation of Rust's standard library fixes: durations, instants, u32, the order of keys.
-use Rattle.std.specs.Prelude.{◌≡◌, Bool, true, false, ◌&&◌, ◌||◌, List, [], ◌∷◌, ℕ, ◌+◌, ◌*◌, ◌-◌, ◌/◌, ◌%◌, ◌^◌, min, eqb, leb, ltb, if◌then◌else◌}
-use Rattle.std.proofs.Math.Option.{Option, none, some}
+use Rattle.std.specs.Prelude.{◌≡◌, Bool, true, false, ◌&&◌, ◌||◌, List, [], ◌∷◌, ℕ, ◌+◌, ◌*◌, ◌-◌, ◌/◌, ◌%◌, ◌^◌, min, eqb, leb, ltb, if◌then◌else◌, None, Option, Some}
 use Rattle.rules.specs.Base.{Bytes, All}
 
 -- ---- Duration
@@ -45,7 +44,7 @@ last_reading = 2 ^ 64 - 1
 
 -- `checked_add`: the later instant, and none where it cannot be represented.
 unfoldable pub checked_add : ℕ → Duration → Option ℕ
-checked_add now d = if leb (now + as_nanos d) last_reading then some (now + as_nanos d) else none
+checked_add now d = if leb (now + as_nanos d) last_reading then Some (now + as_nanos d) else None
 
 -- `saturating_duration_since`: the span from the earlier instant to this one, zero where that one is later.
 unfoldable pub saturating_since : ℕ → ℕ → Duration
@@ -58,7 +57,7 @@ u32_max = 2 ^ 32 - 1
 
 -- `checked_shl`: shifted left, and none for a shift by as many bits as the type has, or more.
 unfoldable pub checked_shl : ℕ → ℕ → Option ℕ
-checked_shl x bits = if ltb bits 32 then some ((x * 2 ^ bits) % 2 ^ 32) else none
+checked_shl x bits = if ltb bits 32 then Some ((x * 2 ^ bits) % 2 ^ 32) else None
 
 -- `saturating_add`: the sum, and the type's greatest number where it would overflow.
 abbrev pub saturating_add : ℕ → ℕ → ℕ

@@ -1,15 +1,13 @@
 -- From what table and input give to the entries' contracts.
-use Rattle.std.specs.Prelude.{◌≡◌, refl, Bool, true, false, not, [], ◌∷◌, ◌++◌, ℕ, suc, ◌+◌, ◌≤◌, ◌<◌, length, drop, get_or, if◌then◌else◌}
+use Rattle.std.specs.Prelude.{◌≡◌, refl, Bool, true, false, [], ◌∷◌, ◌++◌, ℕ, suc, ◌≤◌, ◌<◌, length, drop, get_or, if◌then◌else◌, None, Option, Some, Ok, Err}
 use Rattle.std.proofs.Math.Path.{sym}
 use Rattle.std.proofs.Common.{ap, ◌∙◌, subst, zero-add, arith, lt-ltb, le-ltb, ne_eqb, Fits}
-use Rattle.std.proofs.Math.Option.{Option, none, some}
-use Rattle.std.proofs.lemmas.Bool.{not-true, not-false}
 use Rattle.std.specs.Int.{w8}
 use Rattle.rules.specs.Base.{option, Bytes, All}
 use Rattle.rules.specs.Data.{Call}
 use Rattle.rules.specs.Time.{out_of_range}
 use Rattle.rules.specs.Settle.{refuse, step}
-use Rattle.rules.specs.Record.{Timed, finished, read_call, read_new}
+use Rattle.rules.specs.Record.{Timed, finished, read_call}
 use Rattle.rules.specs.Entry.{Made, new_table}
 use Rattle.rules.specs.Entry as rule
 use Rattle.rules.specs.Bounds.{IsByte, Bounds}
@@ -17,13 +15,18 @@ use Rattle.rules.proofs.Bounds.{bounds_new, bounds_call}
 use Rattle.rules.proofs.Size as size
 use Rattle.lib_laws.specs.Splice.{splice}
 use Rattle.params.specs.View.{view_params}
-use Rattle.input_new.specs.Begin.{News, begin_of, news_start}
-use Rattle.input_new.specs.declared.ReadNew as readnew
+use Rattle.refusal.specs.declared.Refusal.{Refusal}
+use Rattle.refusal.specs.Code.{code}
+use Rattle.refusal.proofs.Codes.{code_some}
+use Rattle.input_new.specs.Begin.{News}
+use Rattle.input_new.proofs.Begin.{news_start}
+use Rattle.input_new.specs.declared.New as news
 use Rattle.table_layout.specs.View.{view_table, Told}
 use Rattle.call_contract.specs.Did.{Space, Ruled, ruled_refused, ruled_is, space_result}
 use Rattle.call_contract.specs.Sound.{Ready, sound_bounds}
 use Rattle.input_call.specs.Read.{kind_fields}
 use Rattle.input_frame.specs.Frame.{Opens}
+use Rattle.input_frame.specs.declared.Header as headers
 use Rattle.call_kinds.specs.Ask.{answered, Asked, Answers}
 use Rattle.settle.specs.Layout.{buffer_len}
 use Rattle.settle.specs.Contract.{Left, Begun, ruled, ruled_bytes, Called}
@@ -37,24 +40,25 @@ pub short : (t s o : Bytes) → length o < buffer_len → refuse 2 (view_table t
 unfolding rule.call
 short t s o h = rw (lt-ltb (length o) buffer_len h)
 
-module _ (t o : Bytes) (h : buffer_len ≤ length o) {s : Bytes} {good : Bool} {k now at : ℕ} (w : Opens s good k now at) where
-  pub unread : not good ≡ true → refuse 3 (view_table t) ≡ ruled t s o
+module _ (t o : Bytes) (h : buffer_len ≤ length o) {s : Bytes} {p : Option headers.Header} (w : Opens s p) where
+  pub unread : p ≡ None → refuse 3 (view_table t) ≡ ruled t s o
   unfolding rule.call
-  unread q = let e : read_call s ≡ none = rw (not-true good q) at w.is in rw (le-ltb (length o) buffer_len h, e)
+  unread q = let e : read_call s ≡ None = rw q at w.is in rw (le-ltb (length o) buffer_len h, e)
 
-  abbrev timed : Call → Timed
-  timed c = record { now = now; call = c }
+  module _ {f : headers.Header} (q : p ≡ Some f) where
+    abbrev timed : Call → Timed
+    timed c = record { now = f.now; call = c }
 
-  -- the call that the fields say
-  said : (x : Option Call) → option (option x none λ c. some (timed c)) (refuse 3 (view_table t)) (λ c. step c.now c.call (view_table t)) ≡ option x (refuse 3 (view_table t)) λ c. step now c (view_table t)
-  said none = refl
-  said (some c) = refl
+    -- the call that the fields say
+    said : (x : Option Call) → option (option x None λ c. Some (timed c)) (refuse 3 (view_table t)) (λ c. step c.now c.call (view_table t)) ≡ option x (refuse 3 (view_table t)) λ c. step f.now c (view_table t)
+    said None = refl
+    said (Some c) = refl
 
-  pub reads : not good ≡ false → answered (kind_fields k) now at s (view_table t) ≡ ruled t s o
-  unfolding rule.call answered
-  reads q =
-      let e : read_call s ≡ option (finished (kind_fields k (drop at s))) none (λ c. some (timed c)) = rw (not-false good q) at w.is in
-      sym (rw (le-ltb (length o) buffer_len h, e) (said (finished (kind_fields k (drop at s)))))
+    pub reads : answered (kind_fields f.kind) f.now f.at s (view_table t) ≡ ruled t s o
+    unfolding rule.call answered
+    reads =
+        let e : read_call s ≡ option (finished (kind_fields f.kind (drop f.at s))) None (λ c. Some (timed c)) = rw q at w.is in
+        sym (rw (le-ltb (length o) buffer_len h, e) (said (finished (kind_fields f.kind (drop f.at s)))))
 
 -- such a buffer has room for it
 pub space : {t o : Bytes} (s : Bytes) → All IsByte s → Left t → buffer_len ≤ length o → Space o 0 (ruled t s o).step.outs
@@ -80,38 +84,38 @@ called {t} {o} {k = k} s b l r =
 pub call_short : {t o : Bytes} (s : Bytes) → All IsByte s → Left t → length o < buffer_len → Called t s o t o 2 0
 call_short {t} {o} s b l h = called s b l (ruled_is (ruled_refused 2 l.fit (omega arith)) (short t s o h))
 
-module _ {t s o : Bytes} (b : All IsByte s) (l : Left t) (h : buffer_len ≤ length o) {good : Bool} {k now at : ℕ} (w : Opens s good k now at) where
+module _ {t s o : Bytes} (b : All IsByte s) (l : Left t) (h : buffer_len ≤ length o) {p : Option headers.Header} (w : Opens s p) where
   -- 3: no call was read
-  pub call_unread : not good ≡ true → Called t s o t o 3 0
+  pub call_unread : p ≡ None → Called t s o t o 3 0
   call_unread q = called s b l (ruled_is (ruled_refused 3 l.fit (omega arith)) (unread t o h w q))
 
   -- a call was read: its step
-  pub call_asked : not good ≡ false → Asked (kind_fields k) now at s t o
-  call_asked q = record { ready = ready l; start = w.room; space = space_result (space s b l h) (sym (reads t o h w q)) }
+  module _ {f : headers.Header} (q : p ≡ Some f) where
+    pub call_asked : Asked (kind_fields f.kind) f.now f.at s t o
+    call_asked = record { ready = ready l; start = rw q at w.room; space = space_result (space s b l h) (sym (reads t o h w q)) }
 
-  pub call_done : {t' o' : Bytes} {n m : ℕ} → not good ≡ false → Answers (kind_fields k) now at s t o t' o' n m → Called t s o t' o' n m
-  call_done q a = called s b l (ruled_is a.ruled (reads t o h w q))
+    pub call_done : {t' o' : Bytes} {n m : ℕ} → Answers (kind_fields f.kind) f.now f.at s t o t' o' n m → Called t s o t' o' n m
+    call_done a = called s b l (ruled_is a.ruled (reads t o h w q))
 
 -- ---- new
 
 -- settings that were accepted are within range
-pub in_range : {s : Bytes} {r : readnew.ReadNew} → News s r → r.number ≡ 0 → out_of_range (view_params r.params) ≡ false
-in_range {s} {r} w e =
-    let a : read_new s ≡ some (begin_of w.clock r) = w.is ∙ rw e in
-    let b : ◌≡◌ {A = ℕ} 0 (if out_of_range (view_params r.params) then 1 else 0) = sym e ∙ w.number ∙ rw a in
-    go (out_of_range (view_params r.params)) b
+pub in_range : {s : Bytes} {r : news.New} → News s (Ok r) → out_of_range (view_params r.params) ≡ false
+in_range {r = r} w = go (out_of_range (view_params r.params)) (w.number ∙ rw w.is.1)
   where
     go : (o : Bool) → ◌≡◌ {A = ℕ} 0 (if o then 1 else 0) → o ≡ false
     go true h = absurd (omega (arith, h))
     go false h = refl
 
-pub begun_made : {t s t' : Bytes} {r : readnew.ReadNew} → News s r → r.number ≡ 0 → All IsByte s → Told t' (new_table r.me.0 r.first (view_params r.params)) → Begun t s t' 0
-begun_made {s = s} {t'} {r} w e b k =
-    let m : rule.new s ≡ Made (view_table t') = news_start w ∙ rw (e, k.shows) in
+pub begun_made : {t s t' : Bytes} {r : news.New} → News s (Ok r) → All IsByte s → Told t' (new_table r.me.0 r.first (view_params r.params)) → Begun t s t' 0
+begun_made {s = s} {t'} {r} w b k =
+    let m : rule.new s ≡ Made (view_table t') = news_start (Ok r) w ∙ rw k.shows in
     record { is = m; refused = λ z. absurd (z refl); left = λ z. record { fit = k.fit; bounds = bounds_new s (view_table t') b m } }
 
-pub begun_refused : {t s : Bytes} {r : readnew.ReadNew} → News s r → (r.number ≡ 0 → ⊥) → Begun t s t r.number
-begun_refused {r = r} w h = record { is = news_start w ∙ rw (ne_eqb r.number 0 h); refused = λ z. refl; left = λ e. absurd (h e) }
+pub begun_refused : {t s : Bytes} {e : Refusal} → News s (Err e) → Begun t s t (code e)
+begun_refused {e = e} w =
+    let h : code e ≡ 0 → ⊥ = λ z. omega (arith, z, code_some e) in
+    record { is = news_start (Err e) w ∙ rw (ne_eqb (code e) 0 h); refused = λ z. refl; left = λ z. absurd (h z) }
 
 -- ---- what is known of each byte of a slice
 pub all_bytes : (s : Bytes) → ((i : ℕ) → Fits w8 (get_or s i 0)) → All IsByte s

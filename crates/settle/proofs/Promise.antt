@@ -7,8 +7,7 @@ use lib.Dec.{eqb}
 use lib.Seq.{take_at}
 use lib.ListN.{length, take, drop}
 use Rattle.rules.specs.Base.{Bytes}
-use Rattle.rules.specs.Data.{LinkRec, Table, Output}
-use Rattle.rules.specs.Output.{outputs}
+use Rattle.rules.specs.Data.{Table, Output}
 use Rattle.rules.specs.Settle.{◌▸◌}
 use Rattle.rules.specs.Claim.{Fed, play, lease_in, is_lease, holding, given, Unused, UnusedAfter, Owned, Account}
 use Rattle.rules.specs.Claim as rule

@@ -5,9 +5,16 @@ ghost use Rattle.std.specs.Prelude.{◌≡◌, length};
 ghost use Rattle.settle.specs.Contract.{Left, Begun, Called};
 ghost use Rattle.table_layout.specs.Layout.{table_len};
 
-use call_contract::Answer;
-use settle::{call, new};
+use settle::{call, new, refusal_number};
 use table_layout::layout::TABLE_LEN;
+
+// What a call answers to a driver, laid out as in C: `number` is the refusal's, 0 for none; `len` is where the outputs end.
+#[repr(C)]
+#[derive(Clone, Copy)]
+pub struct Answer {
+    pub number: u8,
+    pub len: usize,
+}
 
 // How many bytes a table has.
 #[unsafe(no_mangle)]
@@ -22,7 +29,10 @@ pub extern "C" fn settle_new(table: &mut [u8], input: &[u8]) -> u8
     requires { length table.old ≡ table_len }
     ensures { Begun table.old input.now table.new result }
 {
-    new(table, input)
+    match new(table, input) {
+        Ok(()) => 0,
+        Err(r) => refusal_number(r),
+    }
 }
 
 #[unsafe(no_mangle)]
@@ -30,10 +40,11 @@ pub extern "C" fn settle_call(table: &mut [u8], input: &[u8], out: &mut [u8]) ->
     requires { Left table.old }
     ensures { Called table.old input.now out.old table.new out.new result.number result.len }
 {
-    // made anew: passed on whole, the unused bytes between number and length would be carried along, three instructions in every call
-    let a = call(table, input, out);
-    Answer {
-        number: a.number,
-        len: a.len,
+    match call(table, input, out) {
+        Ok(len) => Answer { number: 0, len },
+        Err(r) => Answer {
+            number: refusal_number(r),
+            len: 0,
+        },
     }
 }

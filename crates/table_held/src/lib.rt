@@ -1,19 +1,19 @@
 // The held peers of the table.
 #![tactic(auto)]
 
-ghost use Rattle.std.specs.Prelude.{◌≡◌, ◌<◌, length, drop, set};
-ghost use Rattle.rules.specs.Base.{is, alter, without};
+ghost use Rattle.std.specs.Prelude.{◌≡◌, ◌<◌, length, drop, set, option_map};
+ghost use Rattle.rules.specs.Base.{alter, without};
 ghost use Rattle.rules.specs.Data.{same_pair};
 ghost use Rattle.rules.specs.Std.{insert};
 ghost use Rattle.rules.specs.Settle as settle;
 ghost use Rattle.lib_laws.specs.Scan.{scan};
-ghost use Rattle.node_addr.specs.View.{FitPair, view_pair, Finds};
+ghost use Rattle.node_addr.specs.View.{view_pair};
 ghost use Rattle.node_addr.specs.Place.{pair_here, PairIn};
-ghost use Rattle.held.specs.View.{FitRec, view_rec, last_heard, setup_of};
+ghost use Rattle.held.specs.View.{view_rec};
 ghost use Rattle.table_layout.specs.View.{view_table, FitTable, Told, nth_held};
 
 use held::record::Held;
-use node_addr::{Digest, Found, LinkNo, NodeAddr, Pair};
+use node_addr::{Digest, LinkNo, NodeAddr, Pair};
 use table_layout::layout::{HELD, HELD_END};
 
 pub fn held_count(t: &[u8]) -> usize
@@ -24,9 +24,9 @@ pub fn held_count(t: &[u8]) -> usize
 }
 
 // The place of a peer.
-pub fn find_held(t: &[u8], peer: NodeAddr) -> Found
+pub fn find_held(t: &[u8], peer: NodeAddr) -> Option<usize>
     requires { FitTable t.now }
-    ensures { Finds result (scan (settle.named peer.0) 0 (view_table t.now).held) }
+    ensures { result ≡ scan (settle.named peer.0) 0 (view_table t.now).held }
 {
     held::map::find_held(&t[HELD..HELD_END], peer)
 }
@@ -71,38 +71,20 @@ pub fn held_heard(t: &[u8], i: usize) -> bool
     held::at::heard_at(&t[HELD..HELD_END], i)
 }
 
-// Whether a frame of its session has been heard.
-pub fn held_has_last(t: &[u8], i: usize) -> bool
+// When the last frame of its session was heard, if one was.
+pub fn held_last(t: &[u8], i: usize) -> Option<u64>
     requires fit_table { FitTable t.now }
     requires i_in_bounds { i < length (view_table t.now).held }
-    ensures { result ≡ is (nth_held (view_table t.now) i).last }
-{
-    held::at::has_last_at(&t[HELD..HELD_END], i)
-}
-
-// When the last frame was heard; 0 if none was.
-pub fn held_last(t: &[u8], i: usize) -> u64
-    requires fit_table { FitTable t.now }
-    requires i_in_bounds { i < length (view_table t.now).held }
-    ensures { result ≡ last_heard (nth_held (view_table t.now) i) }
+    ensures { result ≡ (nth_held (view_table t.now) i).last }
 {
     held::at::last_at(&t[HELD..HELD_END], i)
 }
 
-// Whether an answer of this node installed it.
-pub fn held_has_setup(t: &[u8], i: usize) -> bool
+// The digest of the msg1 that was answered, if an answer of this node installed it.
+pub fn held_setup(t: &[u8], i: usize) -> Option<Digest>
     requires fit_table { FitTable t.now }
     requires i_in_bounds { i < length (view_table t.now).held }
-    ensures { result ≡ is (nth_held (view_table t.now) i).setup }
-{
-    held::at::has_setup_at(&t[HELD..HELD_END], i)
-}
-
-// The digest of the msg1 that was answered; zeros if none was.
-pub fn held_setup(t: &[u8], i: usize) -> Digest
-    requires fit_table { FitTable t.now }
-    requires i_in_bounds { i < length (view_table t.now).held }
-    ensures { result.0 ≡ setup_of (nth_held (view_table t.now) i) }
+    ensures { option_map (λ d. d.0) result ≡ (nth_held (view_table t.now) i).setup }
 {
     held::at::setup_at(&t[HELD..HELD_END], i)
 }
@@ -111,7 +93,6 @@ pub fn held_setup(t: &[u8], i: usize) -> Digest
 pub fn current_is(t: &[u8], i: usize, p: Pair) -> bool
     requires fit_table { FitTable t.now }
     requires i_in_bounds { i < length (view_table t.now).held }
-    requires fit_pair { FitPair p }
     ensures { result ≡ same_pair (view_pair p) (nth_held (view_table t.now) i).current }
 {
     held::at::current_is(&t[HELD..HELD_END], i, p)
@@ -120,7 +101,6 @@ pub fn current_is(t: &[u8], i: usize, p: Pair) -> bool
 // A peer that is not held yet.
 pub fn insert_held(t: &mut [u8], h: Held)
     requires fit_table { FitTable t.old }
-    requires fit_rec { FitRec h }
     requires t_len_bound { length (view_table t.old).held < 32 }
     ensures { Told t.new (settle.with_held (insert settle.earlier_held (view_rec h) (view_table t.old).held) (view_table t.old)) }
 {
@@ -158,7 +138,6 @@ pub fn hear_at(t: &mut [u8], i: usize, clock: u64, rec: &[u8], from: usize) -> b
 // A peer moves onto another link.
 pub fn move_peer(t: &mut [u8], peer: NodeAddr, link: LinkNo, from: Pair)
     requires fit_table { FitTable t.old }
-    requires fit_pair { FitPair from }
     ensures { Told t.new (settle.with_held (alter (settle.named peer.0) (settle.moved_to link.0 (view_pair from)) (view_table t.old).held) (view_table t.old)) }
 {
     held::moved::move_peer(&mut t[HELD..HELD_END], peer, link, from);

@@ -43,6 +43,7 @@ view_table t = record {
   gates = gates.view_gates (gates_in t);
 }
 
+-- a clause of each function that is lent the table: a struct that lends it would ask of each caller that the reference within keeps its name
 pub record FitTable (t : Bytes) : Type 0 where
   pub size : length t ≡ table_len
   pub head : FitHead (head_in t)

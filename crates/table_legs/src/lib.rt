@@ -4,29 +4,18 @@
 pub mod clear;
 pub mod open;
 
-ghost use Rattle.std.specs.Prelude.{◌≡◌, ◌≤◌, ◌<◌, length, set, drop};
-ghost use Rattle.rules.specs.Base.{is};
+ghost use Rattle.std.specs.Prelude.{◌≡◌, ◌≤◌, ◌<◌, length, set, drop, option_map};
 ghost use Rattle.rules.specs.Legs as rule;
 ghost use Rattle.rules.specs.Settle as settle;
 ghost use Rattle.lib_laws.specs.Scan.{scan};
-ghost use Rattle.node_addr.specs.View.{Finds};
 ghost use Rattle.params.specs.View.{view_params};
-ghost use Rattle.legs.specs.At.{named_peer, answer_of, Stands, resend_due, past_deadline};
-ghost use Rattle.legs.specs.Walk.{perhaps};
+ghost use Rattle.legs.specs.At.{answer_of, resend_due, past_deadline};
 ghost use Rattle.table_layout.specs.View.{view_table, FitTable, Told, nth_leg};
 
-use legs::poll::Wake;
 use legs_entry::layout::{LEG_WIDTH, MSG1_BYTES, MSG2_BYTES};
-use node_addr::{Digest, Found, LinkNo, NodeAddr};
+use node_addr::{Digest, LinkNo, NodeAddr};
 use params::Params;
 use table_layout::layout::{LEGS, LEGS_END};
-
-// Where bytes stand in the table.
-#[derive(Clone, Copy)]
-pub struct Run {
-    pub at: usize,
-    pub len: usize,
-}
 
 pub fn leg_count(t: &[u8]) -> usize
     requires { FitTable t.now }
@@ -36,9 +25,9 @@ pub fn leg_count(t: &[u8]) -> usize
 }
 
 // The place of the leg on a link.
-pub fn find_leg(t: &[u8], n: LinkNo) -> Found
+pub fn find_leg(t: &[u8], n: LinkNo) -> Option<usize>
     requires { FitTable t.now }
-    ensures { Finds result (scan (rule.on_link n.0) 0 (view_table t.now).legs) }
+    ensures { result ≡ scan (rule.on_link n.0) 0 (view_table t.now).legs }
 {
     legs::map::find_leg(&t[LEGS..LEGS_END], n)
 }
@@ -68,20 +57,11 @@ pub fn leg_answers(t: &[u8], i: usize) -> bool
     legs::at::answers_at(&t[LEGS..LEGS_END], i)
 }
 
-// Whether it names a peer.
-pub fn leg_has_peer(t: &[u8], i: usize) -> bool
+// The peer that it names, if it names one.
+pub fn leg_peer(t: &[u8], i: usize) -> Option<NodeAddr>
     requires fit_table { FitTable t.now }
     requires i_in_bounds { i < length (view_table t.now).legs }
-    ensures { result ≡ is (nth_leg (view_table t.now) i).peer }
-{
-    legs::at::has_peer_at(&t[LEGS..LEGS_END], i)
-}
-
-// The peer that it names; zeros if none.
-pub fn leg_peer(t: &[u8], i: usize) -> NodeAddr
-    requires fit_table { FitTable t.now }
-    requires i_in_bounds { i < length (view_table t.now).legs }
-    ensures { result.0 ≡ named_peer (nth_leg (view_table t.now) i) }
+    ensures { option_map (λ x. x.0) result ≡ (nth_leg (view_table t.now) i).peer }
 {
     legs::at::peer_at(&t[LEGS..LEGS_END], i)
 }
@@ -113,30 +93,28 @@ pub fn leg_replaces(t: &[u8], i: usize) -> bool
     legs::at::replaces_at(&t[LEGS..LEGS_END], i)
 }
 
-// Where its msg1 stands.
-pub fn leg_msg1(t: &[u8], i: usize) -> Run
+// Its msg1, where it stands.
+pub fn leg_msg1(t: &[u8], i: usize) -> &[u8]
     requires fit_table { FitTable t.now }
     requires i_in_bounds { i < length (view_table t.now).legs }
-    ensures { Stands (nth_leg (view_table t.now) i).msg1 result.at result.len t.now }
+    ensures value { result.now ≡ (nth_leg (view_table t.now) i).msg1 }
+    ensures len_bound { length result.now ≤ 128 }
 {
+    let at = LEGS + (i * LEG_WIDTH + MSG1_BYTES);
     let len = legs::at::msg1_len_at(&t[LEGS..LEGS_END], i);
-    Run {
-        at: LEGS + (i * LEG_WIDTH + MSG1_BYTES),
-        len: len,
-    }
+    &t[at..at + len]
 }
 
-// Where its msg2 stands; of length 0 for a dial.
-pub fn leg_msg2(t: &[u8], i: usize) -> Run
+// Its msg2, where it stands; of length 0 for a dial.
+pub fn leg_msg2(t: &[u8], i: usize) -> &[u8]
     requires fit_table { FitTable t.now }
     requires i_in_bounds { i < length (view_table t.now).legs }
-    ensures { Stands (answer_of (nth_leg (view_table t.now) i)).msg2 result.at result.len t.now }
+    ensures value { result.now ≡ (answer_of (nth_leg (view_table t.now) i)).msg2 }
+    ensures len_bound { length result.now ≤ 128 }
 {
+    let at = LEGS + (i * LEG_WIDTH + MSG2_BYTES);
     let len = legs::at::msg2_len_at(&t[LEGS..LEGS_END], i);
-    Run {
-        at: LEGS + (i * LEG_WIDTH + MSG2_BYTES),
-        len: len,
-    }
+    &t[at..at + len]
 }
 
 // How many answers there are.
@@ -148,26 +126,26 @@ pub fn answering(t: &[u8]) -> usize
 }
 
 // The first leg past its deadline, which poll reaps.
-pub fn find_overdue(t: &[u8], clock: u64) -> Found
+pub fn find_overdue(t: &[u8], clock: u64) -> Option<usize>
     requires { FitTable t.now }
-    ensures { Finds result (scan (past_deadline clock) 0 (view_table t.now).legs) }
+    ensures { result ≡ scan (past_deadline clock) 0 (view_table t.now).legs }
 {
     legs::poll::find_overdue(&t[LEGS..LEGS_END], clock)
 }
 
 // The first leg from a place on whose resend is due.
-pub fn find_resend(t: &[u8], from: usize, clock: u64) -> Found
+pub fn find_resend(t: &[u8], from: usize, clock: u64) -> Option<usize>
     requires fit_table { FitTable t.now }
     requires from_in_bounds { from ≤ length (view_table t.now).legs }
-    ensures { Finds result (scan (resend_due clock) from (drop from (view_table t.now).legs)) }
+    ensures { result ≡ scan (resend_due clock) from (drop from (view_table t.now).legs) }
 {
     legs::poll::find_resend(&t[LEGS..LEGS_END], from, clock)
 }
 
 // When the first leg needs a poll.
-pub fn next_wake(t: &[u8]) -> Wake
+pub fn next_wake(t: &[u8]) -> Option<u64>
     requires { FitTable t.now }
-    ensures { perhaps result.some result.at ≡ rule.next_wake (view_table t.now).legs }
+    ensures { result ≡ rule.next_wake (view_table t.now).legs }
 {
     legs::poll::next_wake(&t[LEGS..LEGS_END])
 }

@@ -2,9 +2,9 @@
 ghost use Rattle.std.specs.Prelude.{[], ◌∷◌, ◌++◌, ◌+◌, ◌<◌, ◌^◌, length};
 ghost use Rattle.rules.specs.Links.{opened};
 ghost use Rattle.rules.specs.Settle.{with_links, with_legs, joined};
-ghost use Rattle.node_addr.specs.View.{FitPair, view_pair};
+ghost use Rattle.node_addr.specs.View.{view_pair};
 ghost use Rattle.links.specs.View.{view_dir};
-ghost use Rattle.legs.specs.View.{FitLeg, view_leg};
+ghost use Rattle.legs.specs.View.{view_leg};
 ghost use Rattle.table_layout.specs.View.{view_table, FitTable, Told, with_next};
 
 use legs::leg::Leg;
@@ -20,7 +20,6 @@ use table_layout::layout::{HEAD, HEAD_END, LEGS, LEGS_END, LINKS, LINKS_END};
 fn add_link(t: &mut [u8], n: LinkNo, p: Pair, d: Dir)
     requires fit_table { FitTable t.old }
     requires t_len_bound { length (view_table t.old).links < 32 }
-    requires fit_pair { FitPair p }
     ensures { Told t.new (with_links ((view_table t.old).links ++ (opened n.0 (view_pair p) (view_dir d) ∷ [])) (view_table t.old)) }
 {
     open_link(&mut t[LINKS..LINKS_END], n, p, d);
@@ -29,7 +28,6 @@ fn add_link(t: &mut [u8], n: LinkNo, p: Pair, d: Dir)
 // A leg at the end.
 fn add_leg(t: &mut [u8], l: Leg)
     requires fit_table { FitTable t.old }
-    requires fit_leg { FitLeg l }
     requires t_len_bound { length (view_table t.old).legs < 32 }
     ensures { Told t.new (with_legs ((view_table t.old).legs ++ (view_leg l ∷ [])) (view_table t.old)) }
 {
@@ -47,8 +45,6 @@ fn set_next(t: &mut [u8], n: u64)
 // The next link, set up at the pair, with its leg; the number is used up.
 pub fn open_leg(t: &mut [u8], p: Pair, d: Dir, l: Leg)
     requires fit_table { FitTable t.old }
-    requires fit_pair { FitPair p }
-    requires fit_leg { FitLeg l }
     requires t_len_bound { length (view_table t.old).links < 32 }
     requires t_len_bound_2 { length (view_table t.old).legs < 32 }
     requires t_bound { (view_table t.old).next + 1 < 2 ^ 64 }

@@ -7,12 +7,12 @@ ghost use Rattle.rules.specs.Data.{same_pair, APeer};
 ghost use Rattle.rules.specs.Links as rule;
 ghost use Rattle.rules.specs.Settle as settle;
 ghost use Rattle.lib_laws.specs.Scan.{scan};
-ghost use Rattle.node_addr.specs.View.{FitPair, view_pair, Finds};
-ghost use Rattle.links.specs.View.{view_proven, FitCloses, view_closes};
+ghost use Rattle.node_addr.specs.View.{view_pair};
+ghost use Rattle.links.specs.View.{view_proven, view_closes};
 ghost use Rattle.table_layout.specs.View.{view_table, FitTable, Told, nth_link};
 
 use links::record::{Closes, Proven};
-use node_addr::{Found, LinkNo, NodeAddr, Pair};
+use node_addr::{LinkNo, NodeAddr, Pair};
 use table_layout::layout::{LINKS, LINKS_END};
 
 pub fn link_count(t: &[u8]) -> usize
@@ -23,9 +23,9 @@ pub fn link_count(t: &[u8]) -> usize
 }
 
 // The place of link n.
-pub fn find_link(t: &[u8], n: LinkNo) -> Found
+pub fn find_link(t: &[u8], n: LinkNo) -> Option<usize>
     requires { FitTable t.now }
-    ensures { Finds result (scan (rule.numbered n.0) 0 (view_table t.now).links) }
+    ensures { result ≡ scan (rule.numbered n.0) 0 (view_table t.now).links }
 {
     links::read::find_link(&t[LINKS..LINKS_END], n)
 }
@@ -34,7 +34,6 @@ pub fn find_link(t: &[u8], n: LinkNo) -> Found
 pub fn link_setup(t: &[u8], i: usize) -> Pair
     requires fit_table { FitTable t.now }
     requires i_in_bounds { i < length (view_table t.now).links }
-    ensures fit_pair { FitPair result }
     ensures result_value { view_pair result ≡ (nth_link (view_table t.now) i).setup }
 {
     links::read::setup_at(&t[LINKS..LINKS_END], i)
@@ -44,7 +43,6 @@ pub fn link_setup(t: &[u8], i: usize) -> Pair
 pub fn setup_is(t: &[u8], i: usize, p: Pair) -> bool
     requires fit_table { FitTable t.now }
     requires i_in_bounds { i < length (view_table t.now).links }
-    requires fit_pair { FitPair p }
     ensures { result ≡ same_pair (view_pair p) (nth_link (view_table t.now) i).setup }
 {
     links::read::setup_is(&t[LINKS..LINKS_END], i, p)
@@ -63,7 +61,6 @@ pub fn link_outbound(t: &[u8], i: usize) -> bool
 pub fn link_proven(t: &[u8], i: usize, p: Pair) -> bool
     requires fit_table { FitTable t.now }
     requires i_in_bounds { i < length (view_table t.now).links }
-    requires fit_pair { FitPair p }
     ensures { result ≡ any (rule.proven_at (view_pair p)) (nth_link (view_table t.now) i).paths }
 {
     links::read::proven_at(&t[LINKS..LINKS_END], i, p)
@@ -72,7 +69,6 @@ pub fn link_proven(t: &[u8], i: usize, p: Pair) -> bool
 // Whether a path at the pair would be a fifth of link n.
 pub fn paths_full(t: &[u8], n: LinkNo, p: Pair) -> bool
     requires fit_table { FitTable t.now }
-    requires fit_pair { FitPair p }
     ensures { result ≡ settle.crowded n.0 (view_pair p) (view_table t.now) }
 {
     links::read::paths_full(&t[LINKS..LINKS_END], n, p)
@@ -82,7 +78,6 @@ pub fn paths_full(t: &[u8], n: LinkNo, p: Pair) -> bool
 pub fn retire_link(t: &mut [u8], n: LinkNo) -> Closes
     requires { FitTable t.old }
     ensures told { Told t.new (settle.with_links (rule.retired n.0 (view_table t.old).links) (view_table t.old)) }
-    ensures fit_closes { FitCloses result }
     ensures result_value { view_closes result ≡ rule.retiring n.0 (view_table t.old).links }
 {
     links::close::retire(&mut t[LINKS..LINKS_END], n)
@@ -107,7 +102,6 @@ pub fn hold_link(t: &mut [u8], n: LinkNo, peer: NodeAddr)
 // Link n has a path at the pair in state v: changed, or new.
 pub fn set_path(t: &mut [u8], n: LinkNo, p: Pair, v: Proven)
     requires fit_table { FitTable t.old }
-    requires fit_pair { FitPair p }
     requires t_value { settle.crowded n.0 (view_pair p) (view_table t.old) ≡ false }
     ensures { Told t.new (settle.with_links (rule.path n.0 (view_pair p) (view_proven v) (view_table t.old).links) (view_table t.old)) }
 {
@@ -117,7 +111,6 @@ pub fn set_path(t: &mut [u8], n: LinkNo, p: Pair, v: Proven)
 // Link n's bundle released its path at the pair; `keep`: the peer may still send there. Whether the pair is to close.
 pub fn release(t: &mut [u8], n: LinkNo, p: Pair, keep: bool) -> bool
     requires fit_table { FitTable t.old }
-    requires fit_pair { FitPair p }
     ensures told { Told t.new (settle.with_links (rule.released n.0 (view_pair p) (view_table t.old).links) (view_table t.old)) }
     ensures else_value { (if result then (view_pair p ∷ []) else []) ≡ rule.releasing n.0 (view_pair p) keep (view_table t.old).links }
 {

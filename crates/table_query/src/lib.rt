@@ -3,12 +3,12 @@
 
 ghost use Rattle.std.specs.Prelude.{◌≡◌, true, false, ◌+◌, ◌≤◌, ◌<◌, length, take, drop};
 ghost use Rattle.rules.specs.Settle as settle;
-ghost use Rattle.node_addr.specs.View.{FitPair, view_pair};
+ghost use Rattle.node_addr.specs.View.{view_pair};
 ghost use Rattle.node_addr.specs.Place.{pair_here, PairIn};
 ghost use Rattle.table_layout.specs.View.{view_table, FitTable, nth_held};
 ghost use Rattle.table_query.specs.Ask.{Yields};
 
-use node_addr::{Found, Pair};
+use node_addr::Pair;
 use table_held::{current_is, held_link};
 use table_layout::head::pending_of;
 use table_layout::layout::{LEGS, LEGS_END, LINKS, LINKS_END};
@@ -16,7 +16,7 @@ use table_legs::answering;
 use table_links::{find_link, link_outbound, link_proven, setup_is};
 
 // The place of the leg whose link and stored msg2 answer the n bytes from `at` on, from the pair that the record spells from `from` on.
-pub fn stored(t: &[u8], rec: &[u8], from: usize, at: usize, n: usize) -> Found
+pub fn stored(t: &[u8], rec: &[u8], from: usize, at: usize, n: usize) -> Option<usize>
     requires fit_table { FitTable t.now }
     requires pair_in { PairIn rec.now from }
     requires n_in_bounds { at + n ≤ length rec.now }
@@ -43,8 +43,8 @@ pub fn own(t: &[u8], i: usize) -> bool
 {
     let n = held_link(t, i);
     match find_link(t, n) {
-        Found::At(j) => link_outbound(t, j),
-        Found::Nothing => false,
+        Some(j) => link_outbound(t, j),
+        None => false,
     }
 }
 
@@ -52,11 +52,10 @@ pub fn own(t: &[u8], i: usize) -> bool
 pub fn attributed(t: &[u8], i: usize, p: Pair) -> bool
     requires fit_table { FitTable t.now }
     requires i_in_bounds { i < length (view_table t.now).held }
-    requires fit_pair { FitPair p }
     ensures { result ≡ settle.attributed (nth_held (view_table t.now) i) (view_pair p) (view_table t.now) }
 {
     let n = held_link(t, i);
-    let Found::At(j) = find_link(t, n) else {
+    let Some(j) = find_link(t, n) else {
         return false;
     };
     if setup_is(t, j, p) {

@@ -32,15 +32,14 @@ pub fn next_record(buf: &mut [u8]) -> usize
 }
 
 // A tape to its end, or to the Done of a first record that is refused; what is written for each record goes to standard output. What is read and written here is in no contract: `step` has what matters.
-// A proved loop has to end, so it counts its turns down, from a number that no run uses up.
+// A proved loop has to end: it counts its turns, up to a number that no run reaches.
 pub fn run_tape(table: &mut [u8], buf: &mut [u8], out: &mut [u8])
     requires whole_table { length table.old ≡ table_len }
     requires buf_len { length buf.old ≡ record_len }
     requires out_len_in_bounds { out_len ≤ length out.old }
 {
     let mut phase = Phase::Before;
-    let mut turns = u64::MAX;
-    while turns > 0 {
+    for _ in 0..u64::MAX {
         let n = next_record(buf);
         if n == 0 {
             return;
@@ -52,6 +51,5 @@ pub fn run_tape(table: &mut [u8], buf: &mut [u8], out: &mut [u8])
         if let Phase::Over = phase {
             return;
         }
-        turns -= 1;
     }
 }

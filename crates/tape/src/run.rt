@@ -23,11 +23,12 @@ pub fn run(tape: &[u8], table: &mut [u8], out: &mut [u8]) -> Ran
     let mut phase = Phase::Before;
     let mut at = 0;
     let mut len = 0;
+    // no `for`: a record says itself where the next one begins
     while at < tape.len() {
         if out.len() - len < OUT_LEN {
             return Ran {
-                phase: phase,
-                len: len,
+                phase,
+                len,
                 whole: false,
             };
         }
@@ -38,8 +39,8 @@ pub fn run(tape: &[u8], table: &mut [u8], out: &mut [u8]) -> Ran
         at = end;
     }
     Ran {
-        phase: phase,
-        len: len,
+        phase,
+        len,
         whole: true,
     }
 }

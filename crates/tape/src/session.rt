@@ -7,7 +7,7 @@ ghost use Rattle.tape.specs.Step.{Steps};
 
 use output_record::put::put_done;
 use settle::layout::BUFFER_LEN;
-use settle::{call, new};
+use settle::{call, new, refusal_number};
 
 // Where a session stands: no record yet; a table was made; the first record was refused.
 #[derive(Clone, Copy)]
@@ -30,17 +30,15 @@ fn first(table: &mut [u8], rec: &[u8], out: &mut [u8]) -> Next
     requires out_len_in_bounds { out_len ≤ length out.old }
     ensures { Steps Phase.Before table.old rec.now out.old table.new out.new result.phase result.len }
 {
-    let number = new(table, rec);
-    let len = put_done(out, 0, number);
-    if number == 0 {
-        return Next {
+    match new(table, rec) {
+        Ok(()) => Next {
             phase: Phase::Running,
-            len: len,
-        };
-    }
-    Next {
-        phase: Phase::Over,
-        len: len,
+            len: put_done(out, 0, 0),
+        },
+        Err(r) => Next {
+            phase: Phase::Over,
+            len: put_done(out, 0, refusal_number(r)),
+        },
     }
 }
 
@@ -50,11 +48,15 @@ fn other(table: &mut [u8], rec: &[u8], out: &mut [u8]) -> Next
     requires out_len_in_bounds { out_len ≤ length out.old }
     ensures { Steps Phase.Running table.old rec.now out.old table.new out.new result.phase result.len }
 {
-    let a = call(table, rec, &mut out[0..BUFFER_LEN]);
-    let len = put_done(out, a.len, a.number);
-    Next {
-        phase: Phase::Running,
-        len: len,
+    match call(table, rec, &mut out[0..BUFFER_LEN]) {
+        Ok(len) => Next {
+            phase: Phase::Running,
+            len: put_done(out, len, 0),
+        },
+        Err(r) => Next {
+            phase: Phase::Running,
+            len: put_done(out, 0, refusal_number(r)),
+        },
     }
 }
 

@@ -10,15 +10,14 @@ use tape::feed::next_record;
 use tape::layout::{OUT_LEN, RECORD_LEN};
 use tape::session::{Phase, step};
 
-// A proved loop has to end, so it counts its turns down, from a number that no run uses up.
+// A proved loop has to end: it counts its turns, up to a number that no run reaches.
 fn dump(table: &mut [u8], buf: &mut [u8], out: &mut [u8])
     requires whole_table { length table.old ≡ table_len }
     requires buf_len { length buf.old ≡ record_len }
     requires out_len_in_bounds { out_len ≤ length out.old }
 {
     let mut phase = Phase::Before;
-    let mut turns = u64::MAX;
-    while turns > 0 {
+    for _ in 0..u64::MAX {
         let n = next_record(buf);
         if n == 0 {
             return;
@@ -29,7 +28,6 @@ fn dump(table: &mut [u8], buf: &mut [u8], out: &mut [u8])
             return;
         };
         io::write_all(1, table);
-        turns -= 1;
     }
 }
 

@@ -54,10 +54,11 @@ fn one_tape() -> bool {
     replay(&mut tape, size, &mut table, &mut out)
 }
 
-// A proved loop has to end, so it counts its turns down, from a number that no run uses up.
+// A proved loop has to end: it counts its turns, up to a number that no run reaches.
 fn main() {
-    let mut turns = u64::MAX;
-    while turns > 0 && one_tape() {
-        turns -= 1;
+    for _ in 0..u64::MAX {
+        if !one_tape() {
+            return;
+        }
     }
 }

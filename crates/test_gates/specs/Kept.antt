@@ -1,7 +1,6 @@
 -- What holds of the region between calls, with the chosen settings.
-use Rattle.std.specs.Prelude.{◌≡◌, refl, false, ◌||◌, ℕ, ◌+◌, ◌-◌, ◌≤◌, ◌<◌, eqb, length, replicate}
+use Rattle.std.specs.Prelude.{◌≡◌, refl, false, ◌||◌, ℕ, ◌-◌, ◌≤◌, ◌<◌, eqb, length, replicate, None, Option, Some}
 use Rattle.std.proofs.Common.{sym, ap, subst, arith}
-use Rattle.std.proofs.Math.Option.{Option, none, some}
 use mathlib.Core.List.{List, [], ◌∷◌, ◌++◌, tail}
 use Rattle.std.proofs.lemmas.Bool.{eqb-false}
 use Rattle.rules.specs.Base.{option, Bytes, same, without, any, All}
@@ -62,13 +61,13 @@ Few s = length s.counted ≤ 2
 
 counting_few : (now : ℕ) (e : Option ℕ) (s : Option Silence) → IfAny Few s → Few (counting chosen now e s)
 unfolding counting
-counting_few now e none x = omega arith
-counting_few now e (some r) x = if_by Few (expired chosen now r || differ r.epoch e) (λ z. omega arith) (λ z. x)
+counting_few now e None x = omega arith
+counting_few now e (Some r) x = if_by Few (expired chosen now r || differ r.epoch e) (λ z. omega arith) (λ z. x)
 
 counted_few : (o : Option Bytes) (s : List Bytes) → length s ≤ 2 → length (counted_with chosen o s) ≤ 2
 unfolding counted_with
-counted_few none s h = h
-counted_few (some e) s h = if_by (λ (u : List Bytes). length (u ++ (e ∷ [])) ≤ 2) (eqb (length s) 2)
+counted_few None s h = h
+counted_few (Some e) s h = if_by (λ (u : List Bytes). length (u ++ (e ∷ [])) ≤ 2) (eqb (length s) 2)
     (λ z. omega (arith, length_snoc (tail s) e, length_tail s, eqb_sound (length s) 2 z))
     (λ z. omega (arith, length_snoc s e, eqb-false (length s) 2 z))
 

@@ -17,7 +17,7 @@ use gates_types::Liveness;
 use test_script::show::end_line;
 use test_script::{Step, next_step};
 
-fn step(s: &mut [u8], t: Step, l: Liveness)
+fn step(s: &mut [u8], t: Step, l: Option<Liveness>)
     requires { Kept s.old }
     ensures { Kept s.new }
 {
@@ -31,6 +31,7 @@ fn play(s: &mut [u8], steps: &[u8])
 {
     let mut l = live(0, 0, 0);
     let mut at = 0;
+    // no `for`: each step says where the next line begins
     while at < steps.len() {
         let t = next_step(steps, at);
         if t.word == b'l' {

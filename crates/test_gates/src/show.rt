@@ -3,33 +3,18 @@ ghost use Rattle.gates.specs.View.{FitGates};
 
 use gates::calls::{judged, silenced_for};
 use gates::map::{find_memory, memory_count, memory_of};
-use gates_types::{Liveness, Refusal, Silence, Source, Verdict};
-use test_script::show::{number, perhaps, place};
+use gates_types::{Liveness, Refusal, Silence, Source};
+use test_script::show::{nothing, number, perhaps, place};
 use test_script::values::{digest, node, settings};
 use test_script::{Step, choice};
 
-fn refusal(r: Refusal) -> usize {
-    match r {
-        Refusal::Unheard => 1,
-        Refusal::Heard => 2,
-        Refusal::Dampened => 3,
-        Refusal::Replayed => 4,
-        Refusal::ReplayFull => 5,
-        Refusal::Silent => 6,
-    }
-}
-
-fn code(v: Verdict) -> usize {
-    match v {
-        Verdict::Pass => 0,
-        Verdict::Refuse(r) => refusal(r),
-    }
-}
-
-fn verdict(v: Verdict) {
+fn verdict(v: Result<(), Refusal>) {
     choice(
         b"Pass Unheard Heard Dampened Replayed ReplayFull Silent",
-        code(v),
+        match v {
+            Ok(()) => 0,
+            Err(r) => r as usize + 1,
+        },
     );
 }
 
@@ -46,11 +31,21 @@ fn find(s: &[u8], peer: u64)
 }
 
 // Their epoch, how many, the end of the refusal, how many digests.
-fn silence(has_silence: bool, x: Silence) {
-    perhaps(x.has_epoch, x.epoch);
-    perhaps(has_silence, x.count as u64);
-    perhaps(x.has_until, x.until);
-    number(x.counted.len as u64);
+fn silence(o: &Option<Silence>) {
+    match o {
+        Some(x) => {
+            perhaps(x.epoch);
+            number(x.count as u64);
+            perhaps(x.until);
+            number(x.counted.len() as u64);
+        }
+        None => {
+            nothing();
+            nothing();
+            nothing();
+            number(0);
+        }
+    }
 }
 
 // The stamp, how many replays, and the silences.
@@ -58,10 +53,9 @@ fn memory(s: &[u8], peer: u64)
     requires { FitGates s.now }
 {
     let m = memory_of(s, node(peer));
-    let x = m.silence;
-    perhaps(m.has_stamp, m.stamp);
-    number(m.replays.len as u64);
-    silence(m.has_silence, x);
+    perhaps(m.stamp);
+    number(m.replays.len() as u64);
+    silence(&m.silence);
 }
 
 fn source(v: u64) -> Source {
@@ -74,29 +68,26 @@ fn source(v: u64) -> Source {
     }
 }
 
-pub fn live(holder: u64, installed: u64, last: u64) -> Liveness {
-    Liveness {
-        held: 0 < holder,
+pub fn live(holder: u64, installed: u64, last: u64) -> Option<Liveness> {
+    (0 < holder).then(|| Liveness {
         heard: 1 < holder,
-        installed: installed,
-        has_last: 2 < holder,
-        last: last,
-    }
+        installed,
+        last: (2 < holder).then_some(last),
+    })
 }
 
 // Silent, else what the other judgements say.
-fn gate(s: &[u8], t: Step, l: Liveness) -> Verdict
+fn gate(s: &[u8], t: Step, l: Option<Liveness>) -> Result<(), Refusal>
     requires { FitGates s.now }
 {
     let place = find_memory(s, node(t.a));
     if silenced_for(s, place, source(t.b), t.d, t.e) {
-        return Verdict::Refuse(Refusal::Silent);
+        return Err(Refusal::Silent);
     }
-    let c = settings();
-    judged(s, place, source(t.b), l, digest(t.c), t.e, c)
+    judged(s, place, source(t.b), l, digest(t.c), t.e, settings())
 }
 
-pub fn ask(s: &[u8], t: Step, l: Liveness)
+pub fn ask(s: &[u8], t: Step, l: Option<Liveness>)
     requires { FitGates s.now }
 {
     if t.word == b'a' {

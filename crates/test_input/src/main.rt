@@ -56,10 +56,11 @@ fn one_case() -> bool {
     sized_case(n)
 }
 
-// A proved loop has to end, so it counts its turns down, from a number that no run uses up.
+// A proved loop has to end, so it counts its turns, to a number that no run reaches.
 fn main() {
-    let mut turns = u64::MAX;
-    while turns > 0 && one_case() {
-        turns -= 1;
+    for _ in 0..u64::MAX {
+        if !one_case() {
+            return;
+        }
     }
 }

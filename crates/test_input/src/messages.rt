@@ -1,97 +1,61 @@
-// The fields of the calls that carry a message.
+// The calls that carry a message: kind, clock and fields, where they are well formed.
 ghost use Rattle.std.specs.Prelude.{◌≤◌, length};
-ghost use Rattle.node_addr.specs.View.{FitPair, FitMessage};
 ghost use Rattle.input_call.specs.Hello.{FitHello};
 
 use crate::show::{lease, message, opening, pair, peer, run, span, spelt, truth, word};
-use input_call::handshake::{
-    DialFields, arrived_fields, dial_fields, msg1_fields, replacement_fields,
-};
+use input_call::handshake::{arrived_fields, dial_fields, msg1_fields, replacement_fields};
 use input_call::hello::Hello;
-use node_addr::Digest;
+use input_frame::Header;
 
-fn dial_words(f: DialFields)
-    requires fit_pair { FitPair f.pair }
-    requires fit_message { FitMessage f.message }
+pub fn dial(s: &[u8], h: Header) -> Option<()>
+    requires { h.at ≤ length s.now }
 {
-    let node = f.peer;
-    let to = f.pair;
-    let msg1 = f.message;
-    peer(node);
-    pair(to);
-    message(msg1);
+    let f = dial_fields(s, h.at)?;
+    opening(h);
+    peer(f.peer);
+    pair(f.pair);
+    message(f.message);
     lease(f.lease);
+    Some(())
 }
 
-pub fn dial(s: &[u8], at: usize, kind: u8, clock: u64)
-    requires { at ≤ length s.now }
+pub fn arrived(s: &[u8], h: Header) -> Option<()>
+    requires { h.at ≤ length s.now }
 {
-    let f = dial_fields(s, at);
-    opening(f.ok, kind, clock);
-    if f.ok {
-        dial_words(f);
-    }
+    let f = arrived_fields(s, h.at)?;
+    opening(h);
+    spelt(s, f.from);
+    span(s, f.message);
+    Some(())
 }
 
-pub fn arrived(s: &[u8], at: usize, kind: u8, clock: u64)
-    requires { at ≤ length s.now }
-{
-    let f = arrived_fields(s, at);
-    let bytes = f.message;
-    opening(f.ok, kind, clock);
-    if f.ok {
-        spelt(s, f.from);
-        span(s, bytes);
-    }
-}
-
-fn digest(d: Digest) {
-    let b = d.0;
-    run(&b);
-}
-
-fn hello_first(s: &[u8], h: Hello)
+fn hello(s: &[u8], h: Hello)
     requires { FitHello s.now h }
 {
-    let node = h.peer;
-    let bytes = h.message;
-    peer(node);
+    peer(h.peer);
     spelt(s, h.from);
-    span(s, bytes);
-}
-
-fn hello_last(s: &[u8], h: Hello)
-    requires { FitHello s.now h }
-{
-    let d = h.digest;
-    let msg2 = h.msg2;
-    digest(d);
+    span(s, h.message);
+    run(&h.digest.0);
     word(h.epoch);
-    span(s, msg2);
+    span(s, h.msg2);
     lease(h.lease);
 }
 
-pub fn msg1(s: &[u8], at: usize, kind: u8, clock: u64)
-    requires { at ≤ length s.now }
+pub fn msg1(s: &[u8], h: Header) -> Option<()>
+    requires { h.at ≤ length s.now }
 {
-    let f = msg1_fields(s, at);
-    let h = f.hello;
-    opening(f.ok, kind, clock);
-    if f.ok {
-        hello_first(s, h);
-        hello_last(s, h);
-        truth(f.reachable);
-    }
+    let f = msg1_fields(s, h.at)?;
+    opening(h);
+    hello(s, f.hello);
+    truth(f.reachable);
+    Some(())
 }
 
-pub fn replacement(s: &[u8], at: usize, kind: u8, clock: u64)
-    requires { at ≤ length s.now }
+pub fn replacement(s: &[u8], h: Header) -> Option<()>
+    requires { h.at ≤ length s.now }
 {
-    let f = replacement_fields(s, at);
-    let h = f.hello;
-    opening(f.ok, kind, clock);
-    if f.ok {
-        hello_first(s, h);
-        hello_last(s, h);
-    }
+    let f = replacement_fields(s, h.at)?;
+    opening(h);
+    hello(s, f.hello);
+    Some(())
 }

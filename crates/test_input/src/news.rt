@@ -1,6 +1,6 @@
 // The line of a new.
 use crate::show::{byte, end_line, first, lease, peer, word};
-use input_new::read_new;
+use input_new::{new_fields, read_new};
 use params::Params;
 
 fn spans(p: Params) {
@@ -21,17 +21,17 @@ fn counts(p: Params) {
     word(p.pending);
 }
 
-// Its number, and unless that is 3 me, the first link and the settings.
+// The refusal's number, 0 for none; and me, the first link and the settings, also where they are out of range.
 pub fn new_line(s: &[u8]) {
-    let r = read_new(s);
-    first(r.number);
-    if r.number != 3 {
-        let me = r.me;
-        let params = r.params;
-        peer(me);
-        word(r.first);
-        spans(params);
-        counts(params);
+    match read_new(s) {
+        Ok(_) => first(0),
+        Err(r) => first(r as u8),
+    }
+    if let Some(new) = new_fields(s) {
+        peer(new.me);
+        word(new.first);
+        spans(new.params);
+        counts(new.params);
     }
     end_line();
 }

@@ -1,19 +1,11 @@
 // The words of a line, in hexadecimal, each behind a space but for a line's first.
-ghost use Rattle.node_addr.specs.View.{FitPair, FitMessage};
 ghost use Rattle.node_addr.specs.Place.{PairIn};
-ghost use Rattle.input_field.specs.Field.{FitSpan};
+ghost use Rattle.input_cursor.specs.Span.{FitSpan};
 
-use input_field::Span;
+use input_cursor::Span;
+use input_frame::Header;
 use node_addr::place::load_wire_pair;
 use node_addr::{LinkNo, Message, NodeAddr, Pair};
-
-fn wide(x: u8) -> u64 {
-    x as u64
-}
-
-fn one(flag: bool) -> u64 {
-    if flag { 1 } else { 0 }
-}
 
 pub fn end_line() {
     io::write_all(1, &[b'\n']);
@@ -21,7 +13,7 @@ pub fn end_line() {
 
 // The first word.
 pub fn first(v: u8) {
-    io::print_hex(1, wide(v), 2);
+    io::print_hex(1, v as u64, 2);
 }
 
 fn number(v: u64, width: usize) {
@@ -38,28 +30,27 @@ pub fn lease(v: u32) {
 }
 
 pub fn byte(v: u8) {
-    number(wide(v), 2);
+    number(v as u64, 2);
 }
 
 pub fn truth(v: bool) {
-    number(one(v), 2);
+    number(v as u64, 2);
 }
 
-// Kind and clock of a call, `-` if it is none.
-pub fn opening(ok: bool, kind: u8, clock: u64) {
-    if ok {
-        first(kind);
-        word(clock);
-    } else {
-        io::write_all(1, &[b'-']);
-    }
+// No call.
+pub fn nothing() {
+    io::write_all(1, &[b'-']);
+}
+
+// Kind and clock of a call.
+pub fn opening(h: Header) {
+    first(h.kind);
+    word(h.now);
 }
 
 fn digits(s: &[u8]) {
-    let mut i = 0;
-    while i < s.len() {
-        io::print_hex(1, wide(s[i]), 2);
-        i += 1;
+    for b in s {
+        io::print_hex(1, *b as u64, 2);
     }
 }
 
@@ -73,8 +64,7 @@ pub fn run(s: &[u8]) {
 }
 
 pub fn peer(n: NodeAddr) {
-    let b = n.0;
-    run(&b);
+    run(&n.0);
 }
 
 pub fn link(n: LinkNo) {
@@ -82,36 +72,25 @@ pub fn link(n: LinkNo) {
 }
 
 // Transport and address.
-pub fn pair(p: Pair)
-    requires { FitPair p }
-{
+pub fn pair(p: Pair) {
     lease(p.transport.0);
-    let n = p.addr.len;
-    let b = p.addr.bytes;
-    run(&b[..n]);
+    run(&p.addr.bytes[..p.addr.len]);
 }
 
-pub fn message(m: Message)
-    requires { FitMessage m }
-{
-    let n = m.len;
-    let b = m.bytes;
-    run(&b[..n]);
+pub fn message(m: Message) {
+    run(&m.bytes[..m.len]);
 }
 
 // A message that stands in a record.
 pub fn span(s: &[u8], m: Span)
     requires { FitSpan s.now m }
 {
-    let at = m.at;
-    let end = at + m.len;
-    run(&s[at..end]);
+    run(&s[m.at..m.at + m.len]);
 }
 
 // A pair that stands in a record.
 pub fn spelt(s: &[u8], from: usize)
     requires { PairIn s.now from }
 {
-    let p = load_wire_pair(s, from);
-    pair(p);
+    pair(load_wire_pair(s, from));
 }

@@ -1,36 +1,34 @@
 // The steps that change legs.
-ghost use Rattle.legs.specs.View.{FitLeg, FitLegs};
+ghost use Rattle.legs.specs.View.{FitLegs};
 
 use legs::change::{mark_sent, mark_unsent, resent_at};
-use legs::leg::{Leg, answer_leg, dial_leg};
+use legs::leg::{Answer, Leg, answer_leg, dial_leg};
 use legs::map::{drop_leg, leg_count, push_leg};
 use node_addr::LinkNo;
 use test_script::values::{digest, message, node, settings};
 
 // A dial with so many resends.
-fn dial(n: u64, clock: u64, resends: u64) -> Leg
-    ensures { FitLeg result }
-{
+fn dial(n: u64, clock: u64, resends: u64) -> Leg {
     let mut c = settings();
     c.resends = (resends % 4294967296) as u32;
-    let m = message(65);
-    dial_leg(c, clock, LinkNo(n), node(34), m, 11)
+    dial_leg(c, clock, LinkNo(n), node(34), message(65), 11)
 }
 
 // An answer to the msg1 of byte 66, which would replace a holder.
-fn answer(n: u64, clock: u64) -> Leg
-    ensures { FitLeg result }
-{
-    let c = settings();
-    let m = message(66);
-    let a = message(67);
-    answer_leg(c, clock, LinkNo(n), node(51), m, digest(9), 5, a, 12, true)
+fn answer(n: u64, clock: u64) -> Leg {
+    let a = Answer {
+        sent: false,
+        replaces: true,
+        epoch: 5,
+        digest: digest(9),
+        msg2: message(67),
+    };
+    answer_leg(settings(), clock, LinkNo(n), node(51), message(66), 12, a)
 }
 
 // A new leg, where there is room.
 fn push(s: &mut [u8], l: Leg)
-    requires fit_legs { FitLegs s.old }
-    requires fit_leg { FitLeg l }
+    requires { FitLegs s.old }
     ensures { FitLegs s.new }
 {
     if leg_count(s) < 32 {
@@ -43,9 +41,8 @@ fn resent(s: &mut [u8], i: usize, clock: u64)
     requires { FitLegs s.old }
     ensures { FitLegs s.new }
 {
-    let c = settings();
     if i < leg_count(s) {
-        resent_at(s, i, clock, c);
+        resent_at(s, i, clock, settings());
     }
 }
 

@@ -4,8 +4,7 @@ ghost use Rattle.links.specs.View.{FitLinks};
 ghost use Rattle.legs.specs.View.{FitLegs, leg_count};
 
 use legs::at::{
-    answer_sent_at, answers_at, deadline_at, epoch_at, has_next_at, has_peer_at, lease_at, next_at,
-    replaces_at,
+    answer_sent_at, answers_at, deadline_at, epoch_at, lease_at, next_at, peer_at, replaces_at,
 };
 use legs::map::{find_leg, leg_count};
 use legs::poll::{answering, find_overdue, find_resend, next_wake, wake_at};
@@ -29,8 +28,9 @@ fn times(s: &[u8], i: usize)
 {
     number(lease_at(s, i) as u64);
     number(deadline_at(s, i));
-    truth(has_next_at(s, i));
-    number(next_at(s, i));
+    let next = next_at(s, i);
+    truth(next.is_some());
+    number(next.unwrap_or(0));
     number(wake_at(s, i));
 }
 
@@ -39,7 +39,7 @@ fn kind(s: &[u8], i: usize)
     requires fit_legs { FitLegs s.now }
     requires i_bound { i < leg_count s.now }
 {
-    truth(has_peer_at(s, i));
+    truth(peer_at(s, i).is_some());
     truth(answers_at(s, i));
     number(epoch_at(s, i));
     truth(answer_sent_at(s, i));
@@ -58,8 +58,7 @@ fn leg(s: &[u8], i: usize)
 fn wake(s: &[u8])
     requires { FitLegs s.now }
 {
-    let w = next_wake(s);
-    perhaps(w.some, w.at);
+    perhaps(next_wake(s));
 }
 
 // The first resend that is due, from a place on.

@@ -55,7 +55,7 @@ fn retired(s: &mut [u8], n: u64)
     ensures { FitLinks s.new }
 {
     let closes = retire(s, LinkNo(n));
-    number(closes.len as u64);
+    number(closes.len() as u64);
 }
 
 pub fn change_links(s: &mut [u8], word: u8, a: u64, b: u64, c: u64)

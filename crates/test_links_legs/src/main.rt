@@ -44,6 +44,7 @@ fn play(links: &mut [u8], legs: &mut [u8], steps: &[u8])
     requires fit_legs { FitLegs legs.old }
 {
     let mut at = 0;
+    // no `for`: each step says where the next line begins
     while at < steps.len() {
         let t = next_step(steps, at);
         step_links(links, t);

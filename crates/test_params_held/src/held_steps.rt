@@ -1,40 +1,33 @@
 // The steps of held. A pair is told by its byte.
 ghost use Rattle.std.specs.Prelude.{◌<◌};
-ghost use Rattle.held.specs.View.{FitRec, FitHeld, held_count};
+ghost use Rattle.held.specs.View.{FitHeld, held_count};
 
-use held::at::{current_is, epoch_at, has_last_at, heard_at, last_at};
+use held::at::{current_is, epoch_at, heard_at, last_at};
 use held::heard::hear_at;
 use held::map::{drop_held, find_held, held_count, insert_held};
 use held::record::Held;
 use held::restarted::set_epoch;
-use node_addr::{Digest, Found, LinkNo};
+use node_addr::LinkNo;
 use test_script::show::{number, place, truth};
 use test_script::values::{byte, node, pair};
 
 // A peer that was dialed, not heard yet.
-fn unheard(peer: u64, link: u64) -> Held
-    ensures { FitRec result }
-{
-    let n = node(peer);
-    let p = pair(7, 65);
+fn unheard(peer: u64, link: u64) -> Held {
     Held {
-        peer: n,
+        peer: node(peer),
         link: LinkNo(link),
         epoch: 1,
         installed: 0,
         heard: false,
-        has_last: false,
-        last: 0,
-        has_setup: false,
-        setup: Digest([0u8; 32]),
-        current: p,
+        last: None,
+        setup: None,
+        current: pair(7, 65),
     }
 }
 
 // A peer, where there is room.
 fn insert(s: &mut [u8], h: Held)
-    requires fit_held { FitHeld s.old }
-    requires fit_rec { FitRec h }
+    requires { FitHeld s.old }
     ensures { FitHeld s.new }
 {
     if held_count(s) < 32 {
@@ -56,9 +49,8 @@ fn hear_peer(s: &mut [u8], peer: u64, clock: u64, b: u64)
     requires { FitHeld s.old }
     ensures { FitHeld s.new }
 {
-    match find_held(s, node(peer)) {
-        Found::At(i) => hear(s, i, clock, byte(b)),
-        Found::Nothing => {}
+    if let Some(i) = find_held(s, node(peer)) {
+        hear(s, i, clock, byte(b));
     }
 }
 
@@ -66,9 +58,8 @@ fn restart_peer(s: &mut [u8], peer: u64, epoch: u64)
     requires { FitHeld s.old }
     ensures { FitHeld s.new }
 {
-    match find_held(s, node(peer)) {
-        Found::At(i) => set_epoch(s, i, epoch),
-        Found::Nothing => {}
+    if let Some(i) = find_held(s, node(peer)) {
+        set_epoch(s, i, epoch);
     }
 }
 
@@ -91,8 +82,9 @@ fn peer(s: &[u8], i: usize, b: u64)
     requires i_bound { i < held_count s.now }
 {
     truth(heard_at(s, i));
-    truth(has_last_at(s, i));
-    number(last_at(s, i));
+    let last = last_at(s, i);
+    truth(last.is_some());
+    number(last.unwrap_or(0));
     number(epoch_at(s, i));
     truth(current_is(s, i, pair(7, b)));
 }

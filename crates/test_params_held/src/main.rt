@@ -34,6 +34,7 @@ fn play(s: &mut [u8], steps: &[u8])
     requires { FitHeld s.old }
 {
     let mut at = 0;
+    // no `for`: each step says where the next line begins
     while at < steps.len() {
         let t = next_step(steps, at);
         plain_step(t);
@@ -43,17 +44,9 @@ fn play(s: &mut [u8], steps: &[u8])
     }
 }
 
-fn run(steps: &[u8]) {
-    let mut s = [0u8; HELD_LEN];
-    play(&mut s, steps);
-}
-
-fn read(buf: &mut [u8]) {
-    let n = io::read_full(0, buf);
-    run(&buf[..n]);
-}
-
 fn main() {
     let mut buf = [0u8; 4096];
-    read(&mut buf);
+    let n = io::read_full(0, &mut buf);
+    let mut s = [0u8; HELD_LEN];
+    play(&mut s, &buf[..n]);
 }

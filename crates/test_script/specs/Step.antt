@@ -1,8 +1,10 @@
 -- The steps of a script: a word, of which the first byte counts, and up to five decimal numbers, each behind one space; what follows them is passed over.
-use Rattle.std.specs.Prelude.{◌≡◌, ℕ, zero, suc, ◌+◌, ◌*◌, ◌%◌, ◌^◌, ◌<◌, ◌≤◌, Bool, true, false, ◌&&◌, ltb, [], ◌∷◌, length, drop, ◌==◌, nat_le, nat_lt, slice_index, refl, if◌then◌else◌}
-use Rattle.std.proofs.Common.{sym, ap, ◌∙◌, add-one, arith, lt-ltb, le-ltb}
-use Rattle.std.proofs.Math.Nat.{add-mod, mod-add-mod}
+use Rattle.std.specs.Prelude.{◌≡◌, ℕ, zero, suc, ◌+◌, ◌-◌, ◌*◌, ◌%◌, ◌^◌, ◌<◌, ◌≤◌, Bool, false, ◌&&◌, ltb, [], ◌∷◌, length, drop, ◌==◌, nat_le, nat_lt, slice_index, if◌then◌else◌, fold, take, take_while}
+use Rattle.std.proofs.Common.{sym, ap, ◌∙◌, add-one, arith, take_all}
 use Rattle.std.proofs.Math.Seq.{drop-cons, drop-length}
+use Rattle.std.proofs.lemmas.List.{length-drop}
+use Rattle.std.proofs.lemmas.List.Sums.{prefix_len-le-length}
+use Rattle.std.proofs.lemmas.List.Folds.{length-prefix_len}
 use Rattle.rules.specs.Base.{Bytes}
 
 -- ---- numbers
@@ -14,27 +16,22 @@ digit b = nat_le 48 b && nat_le b 57
 abbrev pub with_digit : ℕ → ℕ → ℕ
 with_digit v b = (v * 10 + b % 16) % 2 ^ 64
 
--- v, and then the digits at the front
-unfoldable pub numeral : ℕ → Bytes → ℕ
-numeral v [] = v
-numeral v (b ∷ s) = if digit b then numeral (with_digit v b) s else v
+-- what the digits at the front spell
+abbrev pub numeral : Bytes → ℕ
+numeral s = fold with_digit 0 (take_while digit s)
 
 -- how many bytes at the front pass a test
-unfoldable pub run : (ℕ → Bool) → Bytes → ℕ
-run test [] = 0
-run test (b ∷ s) = if test b then suc (run test s) else 0
+abbrev pub run : (ℕ → Bool) → Bytes → ℕ
+run test s = length (take_while test s)
 
 -- a number, and how many bytes it is
 abbrev pub Number : Type 0
 Number = ℕ × ℕ
 
-abbrev pub number_there : Bytes → Number
-number_there s = (numeral 0 s, run digit s)
-
 -- the number behind a space, 0 where there is none
 unfoldable pub argument : Bytes → Number
 argument [] = (0, 0)
-argument (b ∷ s) = if b == 32 then (numeral 0 s, suc (run digit s)) else (0, 0)
+argument (b ∷ s) = if b == 32 then (numeral s, suc (run digit s)) else (0, 0)
 
 -- where the next word of a text begins, and the k-th
 abbrev pub next_word : Bytes → ℕ → ℕ
@@ -92,52 +89,28 @@ pub record Steps (s : Bytes) (at w a b c d e r : ℕ) : Type 0 where
 
 -- ---- how they are met
 
--- ten times v, by sums that are cut
-pub tens : (v : ℕ) {two four five ten : ℕ} → two ≡ (v + v) % 2 ^ 64 → four ≡ (two + two) % 2 ^ 64 → five ≡ (four + v) % 2 ^ 64 → ten ≡ (five + five) % 2 ^ 64
-    → ten ≡ (v * 10) % 2 ^ 64
-tens v e f g h =
-    let m : ℕ = 2 ^ 64 in
-    let four = f ∙ ap (λ (x : ℕ). (x + x) % m) e ∙ sym (add-mod (v + v) (v + v) m) in
-    let five = g ∙ ap (λ (x : ℕ). (x + v) % m) four ∙ mod-add-mod (v + v + (v + v)) m v in
-    let ten = h ∙ ap (λ (x : ℕ). (x + x) % m) five ∙ sym (add-mod (v + v + (v + v) + v) (v + v + (v + v) + v) m) in
-    ten ∙ ap (λ (x : ℕ). x % m) (omega arith)
+-- from a place on
+pub rest_of : (s : Bytes) (at : ℕ) → take (length s - at) (drop at s) ≡ drop at s
+rest_of s at = take_all (length s - at) (drop at s) (omega (arith, length-drop at s))
 
-pub with_digit_lem : (v b : ℕ) {ten r : ℕ} → ten ≡ (v * 10) % 2 ^ 64 → r ≡ (ten + b % 16) % 2 ^ 64 → r ≡ with_digit v b
-with_digit_lem v b e f = f ∙ ap (λ (x : ℕ). (x + b % 16) % 2 ^ 64) e ∙ mod-add-mod (v * 10) (2 ^ 64) (b % 16)
+-- the count of those that pass
+run_at_most : (test : ℕ → Bool) (s : Bytes) → run test s ≤ length s
+run_at_most test s = rw length-prefix_len (prefix_len-le-length test s)
+
+pub counted : {test : ℕ → Bool} {s : Bytes} {at n : ℕ} → at ≤ length s → n ≡ run test (take (length s - at) (drop at s)) → Runs test s at (at + n)
+counted {test} {s} {at} h e =
+    let f = rw rest_of at e in
+    record { is = ap (λ (k : ℕ). at + k) f; room = omega (arith, f, run_at_most test (drop at s), length-drop at s) }
 
 module _ (s : Bytes) where
-  nothing_left : {i : ℕ} → i ≡ length s → drop i s ≡ []
-  nothing_left e = ap (λ (k : ℕ). drop k s) e ∙ drop-length s
-
-  -- at a byte that passes, at one that does not, and at the end
-  pub run_more : (test : ℕ → Bool) (i : ℕ) → i < length s → test (slice_index s i) ≡ true → i + run test (drop i s) ≡ i + 1 + run test (drop (i + 1) s)
-  unfolding run
-  run_more test i h e = rw (add-one i, drop-cons s i 0 h, e) (omega arith)
-
-  pub run_stop : (test : ℕ → Bool) (i : ℕ) → i < length s → test (slice_index s i) ≡ false → run test (drop i s) ≡ 0
-  unfolding run
-  run_stop test i h e = rw (drop-cons s i 0 h, e)
-
-  pub run_end : (test : ℕ → Bool) (i : ℕ) → i ≡ length s → run test (drop i s) ≡ 0
-  unfolding run
-  run_end test i h = rw (nothing_left h)
-
-  pub numeral_more : (v i : ℕ) → i < length s → digit (slice_index s i) ≡ true → numeral v (drop i s) ≡ numeral (with_digit v (slice_index s i)) (drop (i + 1) s)
-  unfolding numeral
-  numeral_more v i h e = rw (add-one i, drop-cons s i 0 h, e)
-
-  pub numeral_stop : (v i : ℕ) → i < length s → digit (slice_index s i) ≡ false → numeral v (drop i s) ≡ v
-  unfolding numeral
-  numeral_stop v i h e = rw (drop-cons s i 0 h, e)
-
-  pub numeral_end : (v i : ℕ) → i ≡ length s → numeral v (drop i s) ≡ v
-  unfolding numeral
-  numeral_end v i h = rw (nothing_left h)
-
   -- at a space, at another byte, and at the end
-  pub argument_space : {i v r : ℕ} → i < length s → slice_index s i ≡ 32 → Reads number_there s (i + 1) v r → Reads argument s i v r
+  pub argument_space : {i v n : ℕ} → i < length s → slice_index s i ≡ 32 → v ≡ numeral (take (length s - (i + 1)) (drop (i + 1) s)) → n ≡ run digit (take (length s - (i + 1)) (drop (i + 1) s))
+      → Reads argument s i v (i + 1 + n)
   unfolding argument
-  argument_space {i} h e a = record { value = a.value ∙ rw (add-one i, drop-cons s i 0 h, e); is = a.is ∙ rw (add-one i, drop-cons s i 0 h, e) (omega arith); room = a.room }
+  argument_space {i} {n = n} h e f g =
+      let r = counted {test = digit} {s = s} {at = i + 1} {n = n} (omega arith) g in
+      let k : drop i s ≡ slice_index s i ∷ drop (i + 1) s = rw (add-one i) (drop-cons s i 0 h) in
+      record { value = f ∙ rw (k, e, rest_of s (i + 1)); is = r.is ∙ rw (k, e) (omega arith); room = r.room }
 
   pub argument_other : (i : ℕ) → i < length s → (slice_index s i == 32) ≡ false → Reads argument s i 0 i
   unfolding argument
@@ -146,48 +119,9 @@ module _ (s : Bytes) where
   pub argument_end : (i : ℕ) → i ≡ length s → Reads argument s i 0 i
   unfolding argument
   argument_end i e = record { value = rw (nothing_left e); is = rw (nothing_left e) (omega arith); room = omega (arith, e) }
-
--- a loop has come from a place to i
-pub record Coming (test : ℕ → Bool) (s : Bytes) (at i : ℕ) : Type 0 where
-  pub room : i ≤ length s
-  pub is : i + run test (drop i s) ≡ at + run test (drop at s)
-
-pub coming_start : (test : ℕ → Bool) (s : Bytes) {at : ℕ} → at ≤ length s → Coming test s at at
-coming_start test s h = record { room = h; is = refl }
-
-module _ {test : ℕ → Bool} {s : Bytes} {at i : ℕ} (a : Coming test s at i) where
-  pub coming_more : i < length s → test (slice_index s i) ≡ true → Coming test s at (i + 1)
-  coming_more h e = record { room = omega (arith, h); is = sym (run_more s test i h e) ∙ a.is }
-
-  pub coming_stop : i < length s → test (slice_index s i) ≡ false → Runs test s at i
-  coming_stop h e = record { is = omega (arith, run_stop s test i h e, a.is); room = a.room }
-
-  pub coming_end : length s ≤ i → Runs test s at i
-  coming_end h = record { is = omega (arith, run_end s test i (omega (arith, h, a.room)), a.is); room = a.room }
-
--- the loop over digits has come to i with the number v
-pub record Reading (s : Bytes) (at v i : ℕ) : Type 0 where
-  pub came : Coming digit s at i
-  pub value : numeral v (drop i s) ≡ numeral 0 (drop at s)
-
-pub reading_start : (s : Bytes) {at : ℕ} → at ≤ length s → Reading s at 0 at
-reading_start s h = record { came = coming_start digit s h; value = refl }
-
-module _ {s : Bytes} {at v i : ℕ} (a : Reading s at v i) where
-  pub reading_more : {w : ℕ} → i < length s → digit (slice_index s i) ≡ true → w ≡ with_digit v (slice_index s i) → Reading s at w (i + 1)
-  reading_more h e f = record { came = coming_more a.came h e; value = ap (λ (x : ℕ). numeral x (drop (i + 1) s)) f ∙ sym (numeral_more s v i h e) ∙ a.value }
-
-  pub reading_stop : i < length s → digit (slice_index s i) ≡ false → Reads number_there s at v i
-  reading_stop h e = let r = coming_stop a.came h e in record { value = sym (numeral_stop s v i h e) ∙ a.value; is = r.is; room = r.room }
-
-  pub reading_end : length s ≤ i → Reads number_there s at v i
-  reading_end h = let r = coming_end a.came h in record { value = sym (numeral_end s v i (omega (arith, h, a.came.room))) ∙ a.value; is = r.is; room = r.room }
-
-pub next_word_lem : {s : Bytes} {at r : ℕ} → at < length s → Runs (ltb 32) s at r → r + 1 ≡ next_word s at
-next_word_lem {s} {at} h a = rw (lt-ltb at (length s) h) (ap (λ (k : ℕ). k + 1) a.is)
-
-pub last_word : (s : Bytes) {at : ℕ} → length s ≤ at → at ≡ next_word s at
-last_word s {at} h = rw (le-ltb at (length s) h)
+    where
+      nothing_left : {i : ℕ} → i ≡ length s → drop i s ≡ []
+      nothing_left e = ap (λ (k : ℕ). drop k s) e ∙ drop-length s
 
 pub word_more : (s : Bytes) (i : ℕ) {at r : ℕ} → at ≡ word_start s i → r ≡ next_word s at → r ≡ word_start s (i + 1)
 unfolding word_start

@@ -7,9 +7,7 @@ pub mod show;
 pub mod values;
 
 ghost use Rattle.std.specs.Prelude.{◌≡◌, ◌+◌, ◌<◌, ◌≤◌, length, nat_lt};
-ghost use Rattle.test_script.specs.Step.{digit, with_digit, Runs, Reads, Fives, Steps, number_there, argument, next_word, word_start};
-
-use std::num::wrapping_add_u64;
+ghost use Rattle.test_script.specs.Step.{digit, with_digit, numeral, run, Runs, Reads, Steps, argument, next_word, word_start};
 
 #[derive(Clone, Copy)]
 pub struct Step {
@@ -28,47 +26,27 @@ struct Number {
     at: usize,
 }
 
-#[derive(Clone, Copy)]
-struct Five {
-    a: u64,
-    b: u64,
-    c: u64,
-    d: u64,
-    e: u64,
-    at: usize,
-}
-
-fn is_digit(b: u8) -> bool
-    ensures { result ≡ digit b }
-{
-    48 <= b && b <= 57
-}
-
 // A number with one more digit, the bits past 64 cut.
 fn with_digit(v: u64, b: u8) -> u64
     ensures { result ≡ with_digit v b }
 {
-    let two = wrapping_add_u64(v, v);
-    let four = wrapping_add_u64(two, two);
-    let five = wrapping_add_u64(four, v);
-    let ten = wrapping_add_u64(five, five);
-    wrapping_add_u64(ten, (b % 16) as u64)
+    v.wrapping_mul(10).wrapping_add(u64::from(b % 16))
 }
 
-fn number_at(s: &[u8], at: usize) -> Number
-    requires { at ≤ length s.now }
-    ensures { Reads number_there s.now at result.value result.at }
+// What the digits at the front spell.
+fn numeral(s: &[u8]) -> u64
+    ensures { result ≡ numeral s.now }
 {
-    let mut value = 0;
-    let mut i = at;
-    while i < s.len() && is_digit(s[i]) {
-        value = with_digit(value, s[i]);
-        i += 1;
-    }
-    Number {
-        value: value,
-        at: i,
-    }
+    s.iter()
+        .take_while(|b| b.is_ascii_digit())
+        .fold(0, |v, b| with_digit(v, *b))
+}
+
+// How many digits are at the front.
+fn digit_count(s: &[u8]) -> usize
+    ensures { result ≡ run digit s.now }
+{
+    s.iter().take_while(|b| b.is_ascii_digit()).count()
 }
 
 // The number behind a space, 0 where there is none.
@@ -76,31 +54,21 @@ fn argument(s: &[u8], at: usize) -> Number
     requires { at ≤ length s.now }
     ensures { Reads argument s.now at result.value result.at }
 {
-    if at < s.len() {
-        if s[at] == b' ' {
-            return number_at(s, at + 1);
-        }
+    if at < s.len() && s[at] == b' ' {
+        let rest = &s[at + 1..];
+        return Number {
+            value: numeral(rest),
+            at: at + 1 + digit_count(rest),
+        };
     }
-    Number { value: 0, at: at }
+    Number { value: 0, at }
 }
 
-fn five_at(s: &[u8], at: usize) -> Five
-    requires { at ≤ length s.now }
-    ensures { Fives s.now at result.a result.b result.c result.d result.e result.at }
+// How many bytes at the front are above `last`.
+fn run(s: &[u8], last: u8) -> usize
+    ensures { result ≡ run (nat_lt last) s.now }
 {
-    let a = argument(s, at);
-    let b = argument(s, a.at);
-    let c = argument(s, b.at);
-    let d = argument(s, c.at);
-    let e = argument(s, d.at);
-    Five {
-        a: a.value,
-        b: b.value,
-        c: c.value,
-        d: d.value,
-        e: e.value,
-        at: e.at,
-    }
+    s.iter().take_while(|b| last < **b).count()
 }
 
 // The first byte from a place on that is at most `last`, or the end.
@@ -108,11 +76,7 @@ fn until(s: &[u8], at: usize, last: u8) -> usize
     requires { at ≤ length s.now }
     ensures { Runs (nat_lt last) s.now at result }
 {
-    let mut i = at;
-    while i < s.len() && last < s[i] {
-        i += 1;
-    }
-    i
+    at + run(&s[at..], last)
 }
 
 // The step of the line that begins at a place, which is written. The next line is at `at`.
@@ -122,16 +86,20 @@ pub fn next_step(s: &[u8], at: usize) -> Step
     ensures at_lt_at { at < result.at }
 {
     let word = s[at];
-    let x = five_at(s, until(s, at, b' '));
-    let end = until(s, x.at, b'\n');
+    let a = argument(s, until(s, at, b' '));
+    let b = argument(s, a.at);
+    let c = argument(s, b.at);
+    let d = argument(s, c.at);
+    let e = argument(s, d.at);
+    let end = until(s, e.at, b'\n');
     io::write_all(1, &s[at..end]);
     Step {
-        word: word,
-        a: x.a,
-        b: x.b,
-        c: x.c,
-        d: x.d,
-        e: x.e,
+        word,
+        a: a.value,
+        b: b.value,
+        c: c.value,
+        d: d.value,
+        e: e.value,
         at: end + 1,
     }
 }
@@ -152,10 +120,8 @@ fn word_start(text: &[u8], k: usize) -> usize
     ensures { result ≡ word_start text.now k }
 {
     let mut at = 0;
-    let mut i = 0;
-    while i < k {
+    for _i in 0..k {
         at = next_word(text, at);
-        i += 1;
     }
     at
 }

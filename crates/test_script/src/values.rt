@@ -1,10 +1,11 @@
 // Values that are told apart by a number, of which the last byte counts; and settings by small numbers.
 ghost use Rattle.std.specs.Prelude.{◌≡◌, ◌%◌, [], ◌∷◌, replicate};
-ghost use Rattle.node_addr.specs.View.{view_pair, view_message, FitPair, FitMessage};
+ghost use Rattle.node_addr.specs.View.{view_pair};
+ghost use Rattle.node_addr.specs.Padded.{view};
 ghost use Rattle.params.specs.View.{view_params};
 ghost use Rattle.test_script.specs.Chosen.{chosen, pair_of};
 
-use node_addr::{Addr, Digest, Message, NodeAddr, Pair, TransportId};
+use node_addr::{Addr, Digest, Fixed, Message, NodeAddr, Pair, TransportId};
 use params::Params;
 
 pub fn byte(v: u64) -> u8
@@ -16,42 +17,30 @@ pub fn byte(v: u64) -> u8
 pub fn node(v: u64) -> NodeAddr
     ensures { result.0 ≡ replicate 16 (v % 256) }
 {
-    NodeAddr([byte(v); 16])
+    Fixed([byte(v); 16])
 }
 
 pub fn digest(v: u64) -> Digest
     ensures { result.0 ≡ replicate 32 (v % 256) }
 {
-    Digest([byte(v); 32])
+    Fixed([byte(v); 32])
 }
 
 // An address of one byte.
 pub fn pair(transport: u64, v: u64) -> Pair
-    ensures fit_pair { FitPair result }
-    ensures result_value { view_pair result ≡ pair_of transport v }
+    ensures { view_pair result ≡ pair_of transport v }
 {
-    let mut bytes = [0u8; 48];
-    bytes[0] = byte(v);
     Pair {
         transport: TransportId((transport % 4294967296) as u32),
-        addr: Addr {
-            len: 1,
-            bytes: bytes,
-        },
+        addr: Addr::load(&[byte(v)], 0, 1),
     }
 }
 
 // A message of one byte.
 pub fn message(v: u64) -> Message
-    ensures fit_message { FitMessage result }
-    ensures result_value { view_message result ≡ (v % 256) ∷ [] }
+    ensures { view result ≡ (v % 256) ∷ [] }
 {
-    let mut bytes = [0u8; 128];
-    bytes[0] = byte(v);
-    Message {
-        len: 1,
-        bytes: bytes,
-    }
+    Message::load(&[byte(v)], 0, 1)
 }
 
 pub fn settings() -> Params

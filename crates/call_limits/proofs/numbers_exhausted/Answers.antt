@@ -2,4 +2,4 @@
 use Rattle.call_limits.proofs.numbers_exhausted.Goals as goal
 
 pub returns : goal.returns
-returns c = rw c.next_no-n.ensures
+returns c = rw c.next_no.ensures

@@ -1,6 +1,4 @@
 -- `call_msg2::keep` meets its contract.
-use mathlib.Core.Path.{sym, ◌∙◌}
-use Rattle.call_contract.specs.Did.{puts_length}
 use Rattle.call_msg2.specs.Msg2.{kept_ends, kept_resets, kept_did}
 use borrow.Author.Rules.{rules}
 use Rattle.call_msg2.proofs.keep.Goals as goal
@@ -9,13 +7,7 @@ pub end_leg-a-requires : goal.end_leg-a-requires
 end_leg-a-requires c = record { fit_table = c.requires.fit_table; i_in_bounds = c.requires.i_in_bounds; space = kept_ends _ _ _ c.requires.space }
 
 pub put_reset-requires : goal.put_reset-requires
-put_reset-requires c = kept_resets _ _ _ c.end_leg-a.ensures c.requires.space (search (rules, c.well_formed.1.1.1.1.0))
-
-pub shape_of-t : goal.shape_of-t
-shape_of-t c = c.end_leg-a.ensures.table.fit.size ∙ sym c.requires.fit_table.size
+put_reset-requires c = kept_resets _ _ _ c.end_leg-a.ensures c.requires.space (search rules)
 
 pub returns : goal.returns
 returns c = kept_did _ _ _ c.end_leg-a.ensures c.put_reset.ensures
-
-pub shape_of-out : goal.shape_of-out
-shape_of-out c = puts_length (returns c).puts

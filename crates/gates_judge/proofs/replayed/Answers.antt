@@ -1,5 +1,4 @@
 use mathlib.Core.Path.{sym, ◌∙◌}
-use mathlib.Core.Logic.{⊎_elim}
 use native.Mathlib.Omega.{arith}
 use Rattle.params.specs.View.{view_params}
 use Rattle.gates_judge.specs.Replays.{passing_start, passing_hit, passing_live, passing_old, passing_full, passing_end}
@@ -8,12 +7,6 @@ use Rattle.gates_judge.proofs.replayed.Goals.{then-younger+else-replay_is, else-
 
 pub loop-j-init : goal.loop-j-init
 loop-j-init c = passing_start (view_params c.args.c) c.args.clock c.args.digest.0 c.args.s.now c.args.i c.replay_count_at-n.result c.requires.fit_gates c.requires.i_bound c.replay_count_at-n.ensures
-
-pub seen_at-requires : goal.seen_at-requires
-seen_at-requires c = record { fit_gates = c.requires.fit_gates; i_bound = c.requires.i_bound; j_lt_replay_cap = omega (arith, c.loop-j.invariant.small, c.loop-j-test.true) }
-
-pub replay_is-requires : goal.replay_is-requires
-replay_is-requires c = record { fit_gates = c.requires.fit_gates; i_bound = c.requires.i_bound; j_lt_replay_cap = omega (arith, c.loop-j.invariant.small, c.loop-j-test.true) }
 
 pub returns-then-replay_is : goal.returns-then-replay_is
 returns-then-replay_is c = passing_hit c.loop-j.invariant (omega arith) (rw (← c.seen_at.ensures) (sym c.younger.ensures ∙ c.if-younger.true)) (sym c.replay_is.ensures ∙ c.if-replay_is.true)

@@ -1,4 +1,4 @@
-use Prim.Native.Nat.{◌+◌, ◌-◌, ◌*◌}
+use Prim.Native.Nat.{◌+◌, ◌*◌}
 use Rattle.rules.specs.Gates.{replayed}
 use Rattle.params.specs.View.{view_params}
 use Rattle.gates_entry.specs.Layout.{at_replays, memory_width}
@@ -8,6 +8,3 @@ use Rattle.gates_judge.proofs.replayed.Given as goal
 
 abbrev pub invariant-loop-j : goal.invariant-loop-j
 invariant-loop-j l = Passing (replayed (view_params l.c) l.clock l.digest.0 (memory_at l.s l.i)) (view_params l.c) l.clock l.digest.0 l.s (l.i * memory_width + at_replays) l.n l.j l.live
-
-abbrev pub decreases-loop-j : goal.decreases-loop-j
-decreases-loop-j l = l.n - l.j

@@ -1,23 +1,21 @@
-use mathlib.Core.Path.{sym, ◌∙◌}
-use borrow.Author.Rules.{rules}
-use native.Mathlib.Omega.{arith}
+use Rattle.std.proofs.Common.{sym, ◌∙◌}
 use Rattle.params.specs.View.{view_params}
-use Rattle.gates_silence.specs.Silences.{count_quiet, count_expired, count_unknown, count_other, count_same}
-use Rattle.std.proofs.Common.{ap}
-use mathlib.Core.Bool.{not}
+use Rattle.gates_types.specs.View.{view_silence}
+use Rattle.gates_silence.specs.Silences.{count_quiet, count_same, count_expired, count_other}
 use Rattle.gates_silence.proofs.counting.Goals as goal
+use Rattle.gates_silence.proofs.counting.Goals.{in_default-via-in-Some+then-not-expired+else-unwrap_or-epoch, in_default-via-in-Some+else-not-expired, in_default-via-in_default}
 
-pub returns-then-not-has_silence : goal.returns-then-not-has_silence
-returns-then-not-has_silence c = record { fit_silence = c.new_silence.ensures.fit_silence; result_value = c.new_silence.ensures.result_value ∙ count_quiet (view_params c.args.c) c.args.clock c.args.epoch c.args.s c.args.has_silence (ap not c.if-not-has_silence.true); len_le_len = omega arith }
+pub returns-in-Some-clause-result_value : goal.returns-in-Some-clause-result_value
+returns-in-Some-clause-result_value c =
+    rw c.in-Some.is
+    (count_same (view_params c.args.c) c.args.clock c.args.epoch (view_silence c.in-Some.r) (sym c.expired.ensures ∙ c.if-not-expired.true) (sym c.unwrap_or.ensures ∙ c.if-unwrap_or-epoch.true))
 
-pub returns-then-expired : goal.returns-then-expired
-returns-then-expired c = record { fit_silence = c.new_silence-then-expired.ensures.fit_silence; result_value = c.new_silence-then-expired.ensures.result_value ∙ count_expired (view_params c.args.c) c.args.clock c.args.epoch c.args.s c.args.has_silence (ap not c.if-not-has_silence.false) (sym c.expired.ensures ∙ c.if-expired.true); len_le_len = omega arith }
-
-pub returns-then-not-s : goal.returns-then-not-s
-returns-then-not-s c = record { fit_silence = record { wide = record { epoch = search rules; count = c.requires.wide.count; last = c.requires.wide.last; until = c.requires.wide.until }; unknown = λ q. cc; lifted = c.requires.lifted; counted = c.requires.counted }; result_value = count_unknown (view_params c.args.c) c.args.clock c.args.epoch c.args.s c.args.has_silence (ap not c.if-not-has_silence.false) (sym c.expired.ensures ∙ c.if-expired.false) c.if-not-s.true; len_le_len = omega arith }
-
-pub returns-then-s-epoch : goal.returns-then-s-epoch
-returns-then-s-epoch c = record { fit_silence = c.new_silence-then-s-epoch.ensures.fit_silence; result_value = c.new_silence-then-s-epoch.ensures.result_value ∙ count_other (view_params c.args.c) c.args.clock c.args.epoch c.args.s c.args.has_silence (ap not c.if-not-has_silence.false) (sym c.expired.ensures ∙ c.if-expired.false) c.if-not-s.false c.if-s-epoch.true; len_le_len = omega arith }
-
-pub returns : goal.returns
-returns c = record { fit_silence = c.requires; result_value = count_same (view_params c.args.c) c.args.clock c.args.epoch c.args.s c.args.has_silence (ap not c.if-not-has_silence.false) (sym c.expired.ensures ∙ c.if-expired.false) c.if-not-s.false c.if-s-epoch.false; len_le_len = omega arith }
+pub returns-in_default-clause-result_value : goal.returns-in_default-clause-result_value
+returns-in_default-clause-result_value c =
+    c.new_silence.ensures.result_value ∙ elim c.in_default.branch [
+      | in_default-via-in-Some+then-not-expired+else-unwrap_or-epoch w ↦
+          rw w.in-Some.is
+          (count_other (view_params c.args.c) c.args.clock c.args.epoch (view_silence w.in-Some.r) (sym w.expired.ensures ∙ w.if-not-expired.true) (λ e. w.if-unwrap_or-epoch.false (w.unwrap_or.ensures ∙ e)))
+      | in_default-via-in-Some+else-not-expired w ↦ rw w.in-Some.is (count_expired (view_params c.args.c) c.args.clock c.args.epoch (view_silence w.in-Some.r) (sym w.expired.ensures ∙ w.if-not-expired.false))
+      | in_default-via-in_default w ↦ rw w.in_default.is (count_quiet (view_params c.args.c) c.args.clock c.args.epoch)
+    ]

@@ -1,12 +1,11 @@
-use mathlib.Core.Bool.{true}
-use Rattle.input_cursor.specs.Follow.{follows_start, follows_step, follows_read, follows_none}
-use Rattle.input_frame.specs.Frame.{header}
+use Rattle.input_frame.proofs.Start.{header_none, header_cut, header_read}
 use Rattle.input_frame.proofs.read_header.Goals as goal
 
-pub returns-then-not-t : goal.returns-then-not-t
-unfolding header
-returns-then-not-t c = follows_none (follows_step _ (follows_step _ (follows_start header true _ _) c.read_frame-f.ensures) c.next_u64-t.ensures) c.if-not-t.true
+pub returns-in_err-f-clause-is : goal.returns-in_err-f-clause-is
+returns-in_err-f-clause-is c = rw c.from_residual.ensures (header_none _ c.in_err-f.ensures.is)
 
-pub returns : goal.returns
-unfolding header
-returns c = follows_read (follows_step _ (follows_step _ (follows_start header true _ _) c.read_frame-f.ensures) c.next_u64-t.ensures) c.if-not-t.false c.next_u64-t.ensures.room
+pub returns-in_err-now-clause-is : goal.returns-in_err-now-clause-is
+returns-in_err-now-clause-is c = rw c.from_residual-in_err-now.ensures (header_cut _ c.in_ok-f.ensures.is c.new-cursor.ensures c.in_err-now.ensures)
+
+pub returns-clause-is : goal.returns-clause-is
+returns-clause-is c = header_read _ c.in_ok-f.ensures.is c.new-cursor.ensures c.in_ok-now.ensures

@@ -1,15 +1,56 @@
-use Rattle.input_cursor.specs.Follow.{follows_step, follows_read, follows_none}
-use Rattle.input_new.specs.Begin.{settings_begun}
+use Rattle.rules.specs.Record.{settings}
+use Rattle.input_cursor.proofs.Field.{bound, bound_none}
+use Rattle.input_call.proofs.Read.{gave}
 use Rattle.input_new.proofs.next_settings.Goals as goal
 
-pub returns-then-not-pending : goal.returns-then-not-pending
-returns-then-not-pending c =
-    let x = follows_step _ (follows_step _ (settings_begun c.next_spans-p.ensures) c.next_u32-silent.ensures) c.next_u32-resends.ensures in
-    let f = follows_step _ (follows_step _ (follows_step _ x c.next_byte-replays.ensures) c.next_byte-counted.ensures) c.next_u64-pending.ensures in
-    rw c.no_params.ensures (follows_none f c.if-not-pending.true)
+pub returns-in_err-u64 : goal.returns-in_err-u64
+unfolding settings
+returns-in_err-u64 c = rw c.from_residual.ensures (bound_none _ c.in_err-u64.ensures)
+
+pub returns-in_err-u64-2 : goal.returns-in_err-u64-2
+unfolding settings
+returns-in_err-u64-2 c = rw c.from_residual-in_err-u64-2.ensures (bound _ c.in_ok-u64.ensures (bound_none _ c.in_err-u64-2.ensures))
+
+pub returns-in_err-u64-3 : goal.returns-in_err-u64-3
+unfolding settings
+returns-in_err-u64-3 c = rw c.from_residual-in_err-u64-3.ensures (bound _ c.in_ok-u64.ensures (bound _ c.in_ok-u64-2.ensures (bound_none _ c.in_err-u64-3.ensures)))
+
+pub returns-in_err-u64-4 : goal.returns-in_err-u64-4
+unfolding settings
+returns-in_err-u64-4 c = rw c.from_residual-in_err-u64-4.ensures (bound _ c.in_ok-u64.ensures (bound _ c.in_ok-u64-2.ensures (bound _ c.in_ok-u64-3.ensures (bound_none _ c.in_err-u64-4.ensures))))
+
+pub returns-in_err-u64-5 : goal.returns-in_err-u64-5
+unfolding settings
+returns-in_err-u64-5 c = rw c.from_residual-in_err-u64-5.ensures (bound _ c.in_ok-u64.ensures (bound _ c.in_ok-u64-2.ensures (bound _ c.in_ok-u64-3.ensures (bound _ c.in_ok-u64-4.ensures (bound_none _ c.in_err-u64-5.ensures)))))
+
+pub returns-in_err-u64-6 : goal.returns-in_err-u64-6
+unfolding settings
+returns-in_err-u64-6 c = rw c.from_residual-in_err-u64-6.ensures (bound _ c.in_ok-u64.ensures (bound _ c.in_ok-u64-2.ensures (bound _ c.in_ok-u64-3.ensures (bound _ c.in_ok-u64-4.ensures (bound _ c.in_ok-u64-5.ensures (bound_none _ c.in_err-u64-6.ensures))))))
+
+pub returns-in_err-u64-7 : goal.returns-in_err-u64-7
+unfolding settings
+returns-in_err-u64-7 c = rw c.from_residual-in_err-u64-7.ensures (bound _ c.in_ok-u64.ensures (bound _ c.in_ok-u64-2.ensures (bound _ c.in_ok-u64-3.ensures (bound _ c.in_ok-u64-4.ensures (bound _ c.in_ok-u64-5.ensures (bound _ c.in_ok-u64-6.ensures (bound_none _ c.in_err-u64-7.ensures)))))))
+
+pub returns-in_err-u32 : goal.returns-in_err-u32
+unfolding settings
+returns-in_err-u32 c = rw c.from_residual-in_err-u32.ensures (bound _ c.in_ok-u64.ensures (bound _ c.in_ok-u64-2.ensures (bound _ c.in_ok-u64-3.ensures (bound _ c.in_ok-u64-4.ensures (bound _ c.in_ok-u64-5.ensures (bound _ c.in_ok-u64-6.ensures (bound _ c.in_ok-u64-7.ensures (bound_none _ c.in_err-u32.ensures))))))))
+
+pub returns-in_err-u32-2 : goal.returns-in_err-u32-2
+unfolding settings
+returns-in_err-u32-2 c = rw c.from_residual-in_err-u32-2.ensures (bound _ c.in_ok-u64.ensures (bound _ c.in_ok-u64-2.ensures (bound _ c.in_ok-u64-3.ensures (bound _ c.in_ok-u64-4.ensures (bound _ c.in_ok-u64-5.ensures (bound _ c.in_ok-u64-6.ensures (bound _ c.in_ok-u64-7.ensures (bound _ c.in_ok-u32.ensures (bound_none _ c.in_err-u32-2.ensures)))))))))
+
+pub returns-in_err-byte : goal.returns-in_err-byte
+unfolding settings
+returns-in_err-byte c = rw c.from_residual-in_err-byte.ensures (bound _ c.in_ok-u64.ensures (bound _ c.in_ok-u64-2.ensures (bound _ c.in_ok-u64-3.ensures (bound _ c.in_ok-u64-4.ensures (bound _ c.in_ok-u64-5.ensures (bound _ c.in_ok-u64-6.ensures (bound _ c.in_ok-u64-7.ensures (bound _ c.in_ok-u32.ensures (bound _ c.in_ok-u32-2.ensures (bound_none _ c.in_err-byte.ensures))))))))))
+
+pub returns-in_err-byte-2 : goal.returns-in_err-byte-2
+unfolding settings
+returns-in_err-byte-2 c = rw c.from_residual-in_err-byte-2.ensures (bound _ c.in_ok-u64.ensures (bound _ c.in_ok-u64-2.ensures (bound _ c.in_ok-u64-3.ensures (bound _ c.in_ok-u64-4.ensures (bound _ c.in_ok-u64-5.ensures (bound _ c.in_ok-u64-6.ensures (bound _ c.in_ok-u64-7.ensures (bound _ c.in_ok-u32.ensures (bound _ c.in_ok-u32-2.ensures (bound _ c.in_ok-byte.ensures (bound_none _ c.in_err-byte-2.ensures)))))))))))
+
+pub returns-in_err-u64-8 : goal.returns-in_err-u64-8
+unfolding settings
+returns-in_err-u64-8 c = rw c.from_residual-in_err-u64-8.ensures (bound _ c.in_ok-u64.ensures (bound _ c.in_ok-u64-2.ensures (bound _ c.in_ok-u64-3.ensures (bound _ c.in_ok-u64-4.ensures (bound _ c.in_ok-u64-5.ensures (bound _ c.in_ok-u64-6.ensures (bound _ c.in_ok-u64-7.ensures (bound _ c.in_ok-u32.ensures (bound _ c.in_ok-u32-2.ensures (bound _ c.in_ok-byte.ensures (bound _ c.in_ok-byte-2.ensures (bound_none _ c.in_err-u64-8.ensures))))))))))))
 
 pub returns : goal.returns
-returns c =
-    let x = follows_step _ (follows_step _ (settings_begun c.next_spans-p.ensures) c.next_u32-silent.ensures) c.next_u32-resends.ensures in
-    let f = follows_step _ (follows_step _ (follows_step _ x c.next_byte-replays.ensures) c.next_byte-counted.ensures) c.next_u64-pending.ensures in
-    follows_read f c.if-not-pending.false c.next_u64-pending.ensures.room
+unfolding settings
+returns c = bound _ c.in_ok-u64.ensures (bound _ c.in_ok-u64-2.ensures (bound _ c.in_ok-u64-3.ensures (bound _ c.in_ok-u64-4.ensures (bound _ c.in_ok-u64-5.ensures (bound _ c.in_ok-u64-6.ensures (bound _ c.in_ok-u64-7.ensures (bound _ c.in_ok-u32.ensures (bound _ c.in_ok-u32-2.ensures (bound _ c.in_ok-byte.ensures (bound _ c.in_ok-byte-2.ensures (bound _ c.in_ok-u64-8.ensures gave)))))))))))

@@ -1,9 +1,8 @@
-use Prim.Native.Nat.{◌-◌}
-use Rattle.output_closes.specs.Lists.{Listing}
+use Rattle.std.proofs.Common.{length, take}
+use Rattle.lib_laws.specs.Splice.{Wrote}
+use Rattle.output_closes.specs.Lists.{row}
 use Rattle.output_closes.proofs.put_pairs.Given as goal
 
-abbrev pub invariant-loop-i : goal.invariant-loop-i
-invariant-loop-i l = Listing l.initial.out l.at l.n l.c.pairs l.out l.e l.i
-
-abbrev pub decreases-loop-i : goal.decreases-loop-i
-decreases-loop-i l = l.n - l.i
+-- those before the pair are put
+abbrev pub invariant-loop-p : goal.invariant-loop-p
+invariant-loop-p l = Wrote l.initial.out l.at (length (row (take l.p-index l.p-items))) (row (take l.p-index l.p-items)) l.out l.e

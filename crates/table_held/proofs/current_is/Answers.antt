@@ -8,7 +8,7 @@ pub slice_bounds-current_is-end : goal.slice_bounds-current_is-end
 slice_bounds-current_is-end c = part_end c.requires.fit_table (lit≤ tt)
 
 pub current_is-requires : goal.current_is-requires
-current_is-requires c = record { fit_held = c.requires.fit_table.held; i_bound = held_in_lem c.requires.fit_table c.requires.i_in_bounds; fit_pair = c.requires.fit_pair }
+current_is-requires c = record { fit_held = c.requires.fit_table.held; i_bound = held_in_lem c.requires.fit_table c.requires.i_in_bounds }
 
 pub returns : goal.returns
 unfolding view_table

@@ -8,7 +8,7 @@ pub slice_bounds-insert_held-end : goal.slice_bounds-insert_held-end
 slice_bounds-insert_held-end c = part_end c.requires.fit_table (lit≤ tt)
 
 pub insert_held-requires : goal.insert_held-requires
-insert_held-requires c = record { fit_held = c.requires.fit_table.held; fit_rec = c.requires.fit_rec; s_bound = held_room c.requires.fit_table c.requires.t_len_bound }
+insert_held-requires c = record { fit_held = c.requires.fit_table.held; s_bound = held_room c.requires.fit_table c.requires.t_len_bound }
 
 pub returns : goal.returns
 unfolding view_table

@@ -8,7 +8,7 @@ pub slice_bounds-proven_at-end : goal.slice_bounds-proven_at-end
 slice_bounds-proven_at-end c = part_end c.requires.fit_table (lit≤ tt)
 
 pub proven_at-requires : goal.proven_at-requires
-proven_at-requires c = record { fit_links = c.requires.fit_table.links; i_bound = link_in c.requires.fit_table c.requires.i_in_bounds; fit_pair = c.requires.fit_pair }
+proven_at-requires c = record { fit_links = c.requires.fit_table.links; i_bound = link_in c.requires.fit_table c.requires.i_in_bounds }
 
 pub returns : goal.returns
 unfolding view_table

@@ -12,4 +12,4 @@ setup_at-requires c = record { fit_links = c.requires.fit_table.links; i_bound =
 
 pub returns : goal.returns
 unfolding view_table
-returns c = record { fit_pair = c.setup_at.ensures.fit_pair; result_value = c.setup_at.ensures.result_value }
+returns c = record { result_value = c.setup_at.ensures }

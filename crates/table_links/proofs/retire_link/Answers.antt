@@ -9,4 +9,4 @@ slice_bounds-retire-end c = part_end c.requires (lit≤ tt)
 
 pub returns : goal.returns
 unfolding view_table
-returns c = record { told = told_links c.requires c.retire.ensures.fit_links c.retire.ensures.s_after; fit_closes = c.retire.ensures.fit_closes; result_value = c.retire.ensures.result_value }
+returns c = record { told = told_links c.requires c.retire.ensures.fit_links c.retire.ensures.s_after; result_value = c.retire.ensures.result_value }

@@ -11,7 +11,7 @@ slice_bounds-set_path-end c = part_end c.requires.fit_table (lit≤ tt)
 
 pub set_path-requires : goal.set_path-requires
 unfolding view_table crowding settle.crowded
-set_path-requires c = record { fit_links = c.requires.fit_table.links; fit_pair = c.requires.fit_pair; s_value = c.requires.t_value }
+set_path-requires c = record { fit_links = c.requires.fit_table.links; s_value = c.requires.t_value }
 
 pub returns : goal.returns
 unfolding view_table crowding settle.crowded

@@ -8,7 +8,7 @@ pub slice_bounds-setup_is-end : goal.slice_bounds-setup_is-end
 slice_bounds-setup_is-end c = part_end c.requires.fit_table (lit≤ tt)
 
 pub setup_is-requires : goal.setup_is-requires
-setup_is-requires c = record { fit_links = c.requires.fit_table.links; i_bound = link_in c.requires.fit_table c.requires.i_in_bounds; fit_pair = c.requires.fit_pair }
+setup_is-requires c = record { fit_links = c.requires.fit_table.links; i_bound = link_in c.requires.fit_table c.requires.i_in_bounds }
 
 pub returns : goal.returns
 unfolding view_table

@@ -1,6 +1,6 @@
 -- `table_query::own` meets its contract.
+use Rattle.std.proofs.Common.{sym, ◌∙◌}
 use Rattle.lib_laws.specs.Place.{place_within}
-use Rattle.node_addr.specs.View.{finds_at, finds_none}
 use Rattle.table_query.specs.Ask.{own_at, own_none}
 use Rattle.table_query.proofs.own.Goals as goal
 
@@ -11,10 +11,10 @@ pub find_link-requires : goal.find_link-requires
 find_link-requires c = c.requires.fit_table
 
 pub link_outbound-requires : goal.link_outbound-requires
-link_outbound-requires c = record { fit_table = c.requires.fit_table; i_in_bounds = place_within _ _ _ (finds_at c.find_link.ensures c.in-At.is) }
+link_outbound-requires c = record { fit_table = c.requires.fit_table; i_in_bounds = place_within _ _ _ (sym c.find_link.ensures ∙ c.in-Some.is) }
 
-pub returns-in-At : goal.returns-in-At
-returns-in-At c = own_at _ _ c.held_link-n.ensures (finds_at c.find_link.ensures c.in-At.is) c.link_outbound.ensures
+pub returns-in-Some : goal.returns-in-Some
+returns-in-Some c = own_at _ _ c.held_link-n.ensures (sym c.find_link.ensures ∙ c.in-Some.is) c.link_outbound.ensures
 
-pub returns-in-Nothing : goal.returns-in-Nothing
-returns-in-Nothing c = own_none _ _ c.held_link-n.ensures (finds_none c.find_link.ensures c.in-Nothing.is)
+pub returns-in-None : goal.returns-in-None
+returns-in-None c = own_none _ _ c.held_link-n.ensures (sym c.find_link.ensures ∙ c.in-None.is)

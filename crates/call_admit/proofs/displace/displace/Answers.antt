@@ -1,11 +1,8 @@
 -- `call_admit::displace::displace` meets its contract.
-use mathlib.Core.Path.{sym, ◌∙◌}
-use Rattle.call_contract.specs.Did.{space_left, space_right, space_is, did_is, did_then, puts_length}
+use mathlib.Core.Path.{sym}
+use Rattle.call_contract.specs.Did.{space_left, space_right, space_is, did_is, did_then}
 use Rattle.call_admit.specs.Displace.{stamped_ready, stamped_within, stamped_at, stamped_removed, gone_room, gone_next}
 use Rattle.call_admit.proofs.displace.displace.Goals as goal
-
-pub stamp_at-requires : goal.stamp_at-requires
-stamp_at-requires c = record { ready = c.requires.ready; i_in_bounds = c.requires.i_in_bounds; t_value = c.requires.t_value }
 
 pub remove_at-a-requires : goal.remove_at-a-requires
 remove_at-a-requires c =
@@ -20,12 +17,6 @@ answer-requires c =
     let d = did_is c.remove_at-a.ensures (stamped_removed _ c.requires.ready.sound _ c.ranges.clock.fits c.args.h.peer.0 c.args.i c.requires.i_in_bounds c.requires.t_value c.stamp_at.ensures c.displaces-why.ensures) in
     let room = gone_room _ c.requires.ready.sound _ c.ranges.clock.fits c.args.h.peer.0 c.args.i c.requires.i_in_bounds c.requires.t_value _ d in
     record { fit_table = d.table.fit; fit_hello = c.requires.fit_hello; t_len_bound = room.0; t_len_bound_2 = room.1; t_bound = gone_next _ c.requires.ready.sound _ c.ranges.clock.fits c.args.h.peer.0 c.args.i c.requires.i_in_bounds c.requires.t_value _ d c.requires.t_bound; space = space_right _ _ c.requires.space d }
-
-pub shape_of-t : goal.shape_of-t
-shape_of-t c = c.answer.ensures.table.fit.size ∙ sym c.requires.ready.fit.size
-
-pub shape_of-out : goal.shape_of-out
-shape_of-out c = puts_length c.answer.ensures.puts ∙ puts_length c.remove_at-a.ensures.puts
 
 pub returns : goal.returns
 returns c =

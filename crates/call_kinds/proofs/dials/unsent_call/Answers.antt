@@ -1,21 +1,20 @@
 -- `call_kinds::dials::unsent_call` meets its contract.
-use mathlib.Core.Path.{◌∙◌, sym}
+use Rattle.std.proofs.Common.{ap}
 use Rattle.rules.specs.Settle.{step}
-use Rattle.call_kinds.specs.Ask.{unread, read_done}
 use Rattle.rules.specs.Data.{Call}
+use Rattle.std.specs.Prelude.{option_map}
+use Rattle.refusal.specs.Passed.{passed_missing}
+use Rattle.call_kinds.specs.Ask.{unread, read_done}
 use Rattle.call_kinds.specs.Kind.{ruled_told, unsent_silent}
 use Rattle.call_kinds.proofs.dials.unsent_call.Goals as goal
 
-pub returns-then-not-r : goal.returns-then-not-r
-returns-then-not-r c = unread c.requires (c.link_fields-r.ensures Call.Unsent) c.if-not-r.true
+pub returns-in_err-r : goal.returns-in_err-r
+returns-in_err-r c = rw (passed_missing c.from_residual.ensures.1 c.in_err-r.ensures.value c.in_err-r.ensures.ok_part) (unread c.requires (c.link_fields.ensures Call.Unsent) (ap (option_map _) c.in_err-r.ensures.ok_part))
 
 pub unsent-requires : goal.unsent-requires
 unfolding step
 unsent-requires c = c.requires.ready.fit
 
-pub shape_of-t : goal.shape_of-t
-shape_of-t c = c.unsent.ensures.fit.size ∙ sym c.requires.ready.fit.size
-
 pub returns : goal.returns
 unfolding step
-returns c = read_done c.requires (c.link_fields-r.ensures Call.Unsent) c.if-not-r.false (ruled_told (unsent_silent _ _) c.unsent.ensures)
+returns c = read_done c.requires (c.link_fields.ensures Call.Unsent) (ap (option_map _) c.in_ok-r.ensures.ok_part) (ruled_told (unsent_silent _ _) c.unsent.ensures)

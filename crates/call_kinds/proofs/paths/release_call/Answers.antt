@@ -1,23 +1,19 @@
 -- `call_kinds::paths::release_call` meets its contract.
-use mathlib.Core.Path.{◌∙◌, sym}
+use Rattle.std.proofs.Common.{ap}
 use Rattle.rules.specs.Settle.{step}
-use Rattle.call_contract.specs.Did.{puts_length, ruled_ok}
+use Rattle.std.specs.Prelude.{option_map}
+use Rattle.refusal.specs.Passed.{passed_missing}
+use Rattle.call_contract.specs.Did.{ruled_ok}
 use Rattle.call_kinds.specs.Ask.{unread, read_space, read_done}
 use Rattle.call_kinds.proofs.paths.release_call.Goals as goal
 
-pub returns-then-not-r : goal.returns-then-not-r
-returns-then-not-r c = unread c.requires c.release_fields-r.ensures.reads c.if-not-r.true
+pub returns-in_err-r : goal.returns-in_err-r
+returns-in_err-r c = rw (passed_missing c.from_residual.ensures.1 c.in_err-r.ensures.value c.in_err-r.ensures.ok_part) (unread c.requires c.release_fields.ensures (ap (option_map _) c.in_err-r.ensures.ok_part))
 
-pub release-n-requires : goal.release-n-requires
+pub release-requires : goal.release-requires
 unfolding step
-release-n-requires c = record { fit_table = c.requires.ready.fit; fit_pair = c.release_fields-r.ensures.fit_pair; space = read_space c.requires c.release_fields-r.ensures.reads c.if-not-r.false }
-
-pub shape_of-t : goal.shape_of-t
-shape_of-t c = c.release-n.ensures.table.fit.size ∙ sym c.requires.ready.fit.size
-
-pub shape_of-out : goal.shape_of-out
-shape_of-out c = puts_length c.release-n.ensures.puts
+release-requires c = record { fit_table = c.requires.ready.fit; space = read_space c.requires c.release_fields.ensures (ap (option_map _) c.in_ok-r.ensures.ok_part) }
 
 pub returns : goal.returns
 unfolding step
-returns c = read_done c.requires c.release_fields-r.ensures.reads c.if-not-r.false (ruled_ok c.release-n.ensures)
+returns c = read_done c.requires c.release_fields.ensures (ap (option_map _) c.in_ok-r.ensures.ok_part) (ruled_ok c.release.ensures)

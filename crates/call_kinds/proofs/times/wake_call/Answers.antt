@@ -1,28 +1,20 @@
 -- `call_kinds::times::wake_call` meets its contract.
-use Rattle.rules.specs.Settle.{step}
-use Rattle.call_contract.specs.Did.{puts_length}
-use Rattle.call_kinds.specs.Ask.{unread, read_space, read_done}
-use Rattle.rules.specs.Data.{Call}
-use Rattle.input_call.specs.Event.{bare_reads}
-use mathlib.Core.Path.{refl}
-use Rattle.call_kinds.specs.Kind.{ruled_puts}
 use Rattle.std.proofs.Common.{ap}
-use mathlib.Core.Bool.{not}
+use Rattle.rules.specs.Settle.{step}
+use Rattle.rules.specs.Data.{Call}
+use Rattle.std.specs.Prelude.{option_map}
+use Rattle.refusal.specs.Passed.{passed_missing}
+use Rattle.call_kinds.specs.Ask.{unread, read_space, read_done}
+use Rattle.call_kinds.specs.Kind.{ruled_puts}
 use Rattle.call_kinds.proofs.times.wake_call.Goals as goal
 
-pub returns-then-not-at_end : goal.returns-then-not-at_end
-returns-then-not-at_end c = unread c.requires (bare_reads Call.Wake _ _ c.requires.start c.at_end.ensures) (ap not c.if-not-at_end.true)
+pub returns-in_err-ok_or : goal.returns-in_err-ok_or
+returns-in_err-ok_or c = rw (passed_missing c.from_residual.ensures.1 c.in_err-ok_or.ensures.value c.in_err-ok_or.ensures.ok_part) (unread c.requires (c.no_fields.ensures Call.Wake) (ap (option_map _) c.in_err-ok_or.ensures.ok_part))
 
-pub wake-n-requires : goal.wake-n-requires
+pub wake-requires : goal.wake-requires
 unfolding step
-wake-n-requires c = record { fit_table = c.requires.ready.fit; space = read_space c.requires (bare_reads Call.Wake _ _ c.requires.start c.at_end.ensures) (ap not c.if-not-at_end.false) }
-
-pub shape_of-t : goal.shape_of-t
-shape_of-t c = refl
-
-pub shape_of-out : goal.shape_of-out
-shape_of-out c = puts_length c.wake-n.ensures
+wake-requires c = record { fit_table = c.requires.ready.fit; space = read_space c.requires (c.no_fields.ensures Call.Wake) (ap (option_map _) c.in_ok-ok_or.ensures.ok_part) }
 
 pub returns : goal.returns
 unfolding step
-returns c = read_done c.requires (bare_reads Call.Wake _ _ c.requires.start c.at_end.ensures) (ap not c.if-not-at_end.false) (ruled_puts c.requires.ready.fit c.wake-n.ensures)
+returns c = read_done c.requires (c.no_fields.ensures Call.Wake) (ap (option_map _) c.in_ok-ok_or.ensures.ok_part) (ruled_puts c.requires.ready.fit c.wake.ensures)

@@ -1,25 +1,12 @@
 use native.Mathlib.Omega.{arith}
-use borrow.Author.Count.{falls}
-use Rattle.call_limits.specs.Count.{tallied_turn, tallied_fits, tallied_next, held_start, held_end}
+use Rattle.call_limits.specs.Count.{tallied_turn, held_start, held_end}
 use Rattle.call_limits.proofs.count.count_places.Goals as goal
 
 pub loop-i-init : goal.loop-i-init
-loop-i-init c = held_start c.requires.sound c.leg_places-k.ensures c.held_count-n.ensures
-
-pub held_place-k-requires : goal.held_place-k-requires
-held_place-k-requires c = record { ready = c.requires; i_in_bounds = omega (arith, c.loop-i-test.true, c.held_count-n.ensures) }
-
-pub overflow_add-k : goal.overflow_add-k
-overflow_add-k c = tallied_fits c.loop-i.invariant _ c.held_place-k.ensures
-
-pub overflow_add-i : goal.overflow_add-i
-overflow_add-i c = tallied_next c.loop-i.invariant c.loop-i-test.true
-
-pub loop-i-smaller : goal.loop-i-smaller
-loop-i-smaller c = falls _ _ c.loop-i-test.true
+loop-i-init c = held_start c.requires.sound c.leg_places-k.ensures
 
 pub loop-i-preserved : goal.loop-i-preserved
-loop-i-preserved c = tallied_turn c.loop-i.invariant _ c.held_place-k.ensures c.loop-i-test.true
+loop-i-preserved c = tallied_turn c.loop-i.invariant _ c.held_place-k.ensures
 
 pub returns : goal.returns
-returns c = held_end c.requires.sound c.leg_places-k.ensures c.held_count-n.ensures c.loop-i.invariant c.loop-i-test.false
+returns c = held_end c.requires.sound c.leg_places-k.ensures c.loop-i.invariant (omega (arith, c.held_count-i-end.ensures))

@@ -4,7 +4,7 @@ use Rattle.call_limits.specs.Count.{held_again, held_new}
 use Rattle.call_limits.proofs.count.held_place.Goals as goal
 
 pub returns-then-named_from : goal.returns-then-named_from
-returns-then-named_from c = held_again (view_table c.args.t.now) c.requires.ready.sound.shaped.ordered.held c.requires.i_in_bounds c.held_peer-p.ensures c.named_from.ensures c.if-named_from.true
+returns-then-named_from c = held_again (view_table c.args.t.now) c.requires.ready.sound.shaped.ordered.held c.requires.i_in_bounds c.held_peer.ensures c.named_from.ensures c.if-named_from.true
 
-pub returns : goal.returns
-returns c = held_new (view_table c.args.t.now) c.requires.ready.sound.shaped.ordered.held c.requires.i_in_bounds c.held_peer-p.ensures c.named_from.ensures c.if-named_from.false
+pub returns-else-named_from : goal.returns-else-named_from
+returns-else-named_from c = held_new (view_table c.args.t.now) c.requires.ready.sound.shaped.ordered.held c.requires.i_in_bounds c.held_peer.ensures c.named_from.ensures c.if-named_from.false

@@ -1,16 +1,10 @@
 -- `call_msg1::msg1::msg1` meets its contract.
-use mathlib.Core.Path.{refl, sym, ◌∙◌}
+use mathlib.Core.Path.{sym, ◌∙◌}
 use Rattle.input_call.specs.Hello.{hello_of}
-use Rattle.call_contract.specs.Did.{space_place, space_result, puts_length, ruled_refused, ruled_is}
+use Rattle.call_contract.specs.Did.{space_place, space_result, ruled_refused, ruled_is}
 use Rattle.call_limits.specs.Enter.{numbering_refused, numbering_passed, next_room}
 use Rattle.call_msg1.specs.Msg1.{step_msg1}
 use Rattle.call_msg1.proofs.msg1.msg1.Goals as goal
-
-pub numbers_exhausted-requires : goal.numbers_exhausted-requires
-numbers_exhausted-requires c = c.requires.ready.fit
-
-pub shape_of-t-then-numbers_exhausted : goal.shape_of-t-then-numbers_exhausted
-shape_of-t-then-numbers_exhausted c = refl
 
 pub returns-then-numbers_exhausted : goal.returns-then-numbers_exhausted
 returns-then-numbers_exhausted c =
@@ -21,12 +15,6 @@ pub numbered_msg1-requires : goal.numbered_msg1-requires
 numbered_msg1-requires c =
     let e = step_msg1 _ (hello_of c.args.s.now c.args.h) _ _ ∙ numbering_passed _ c.numbers_exhausted.ensures _ c.if-numbers_exhausted.false in
     record { ready = c.requires.ready; fit_hello = c.requires.fit_hello; t_bound = next_room _ c.numbers_exhausted.ensures c.requires.ready.sound c.if-numbers_exhausted.false; space = space_result c.requires.space e }
-
-pub shape_of-t : goal.shape_of-t
-shape_of-t c = c.numbered_msg1.ensures.did.table.fit.size ∙ sym c.requires.ready.fit.size
-
-pub shape_of-out : goal.shape_of-out
-shape_of-out c = puts_length c.numbered_msg1.ensures.did.puts
 
 pub returns : goal.returns
 returns c = ruled_is c.numbered_msg1.ensures (sym (step_msg1 _ (hello_of c.args.s.now c.args.h) _ _ ∙ numbering_passed _ c.numbers_exhausted.ensures _ c.if-numbers_exhausted.false))

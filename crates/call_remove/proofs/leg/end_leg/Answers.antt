@@ -14,7 +14,7 @@ pub retire_link-c-requires : goal.retire_link-c-requires
 retire_link-c-requires c = c.drop_leg.ensures.fit
 
 pub put_retire-requires : goal.put_retire-requires
-put_retire-requires c = record { fit_closes = c.retire_link-c.ensures.fit_closes; c_in_bounds = ends_retire _ _ c.leg_link-n.ensures c.leg_lease-lease.ensures c.requires.space c.put_free-a.ensures c.drop_leg.ensures c.retire_link-c.ensures.result_value }
+put_retire-requires c = ends_retire _ _ c.leg_link-n.ensures c.leg_lease-lease.ensures c.requires.space c.put_free-a.ensures c.drop_leg.ensures c.retire_link-c.ensures.result_value
 
 pub shape_of-t : goal.shape_of-t
 shape_of-t c = c.retire_link-c.ensures.told.fit.size ∙ sym c.requires.fit_table.size

@@ -10,9 +10,6 @@ returns-then-held_heard c = part_heard _ _ c.requires.ready.fit c.held_heard.ens
 pub held_epoch-epoch-requires : goal.held_epoch-epoch-requires
 held_epoch-epoch-requires c = record { fit_table = c.requires.ready.fit; i_in_bounds = c.requires.i_in_bounds }
 
-pub held_has_setup-has_setup-requires : goal.held_has_setup-has_setup-requires
-held_has_setup-has_setup-requires c = record { fit_table = c.requires.ready.fit; i_in_bounds = c.requires.i_in_bounds }
-
 pub held_setup-setup-requires : goal.held_setup-setup-requires
 held_setup-setup-requires c = record { fit_table = c.requires.ready.fit; i_in_bounds = c.requires.i_in_bounds }
 
@@ -26,4 +23,4 @@ pub shape_of-t : goal.shape_of-t
 shape_of-t c = c.ended.ensures.fit.size ∙ sym c.requires.ready.fit.size
 
 pub returns : goal.returns
-returns c = part_unheard _ _ _ _ c.requires.t_value c.held_heard.ensures c.if-held_heard.false c.held_epoch-epoch.ensures c.held_has_setup-has_setup.ensures c.held_setup-setup.ensures c.params_of-c.ensures c.ended.ensures
+returns c = part_unheard _ _ _ _ c.requires.t_value c.held_heard.ensures c.if-held_heard.false c.held_epoch-epoch.ensures c.held_setup-setup.ensures c.params_of-c.ensures c.ended.ensures

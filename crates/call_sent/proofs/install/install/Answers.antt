@@ -5,7 +5,7 @@ use Rattle.call_sent.specs.Install.{told_seated, held_left}
 use Rattle.call_sent.proofs.install.install.Goals as goal
 
 pub insert_held-requires : goal.insert_held-requires
-insert_held-requires c = record { fit_table = c.hold_link.ensures.fit; fit_rec = c.requires.fit_rec; t_len_bound = held_left _ (view_rec c.args.h) c.drop_leg.ensures c.hold_link.ensures c.requires.t_len_bound }
+insert_held-requires c = record { fit_table = c.hold_link.ensures.fit; t_len_bound = held_left _ (view_rec c.args.h) c.drop_leg.ensures c.hold_link.ensures c.requires.t_len_bound }
 
 pub shape_of-t : goal.shape_of-t
 shape_of-t c = c.insert_held.ensures.fit.size ∙ sym c.requires.fit_table.size

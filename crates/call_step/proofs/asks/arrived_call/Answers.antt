@@ -1,24 +1,19 @@
 -- `call_step::asks::arrived_call` meets its contract.
+use Rattle.std.proofs.Common.{ap}
 use Rattle.rules.specs.Settle.{step}
-use Rattle.call_contract.specs.Did.{puts_length, ruled_ok}
+use Rattle.std.specs.Prelude.{option_map}
+use Rattle.refusal.specs.Passed.{passed_missing}
+use Rattle.call_contract.specs.Did.{ruled_ok}
 use Rattle.call_kinds.specs.Ask.{unread, read_space, read_done}
-use borrow.Author.Tests.{not-false}
-use mathlib.Core.Path.{refl}
 use Rattle.call_step.proofs.asks.arrived_call.Goals as goal
 
-pub returns-then-not-r : goal.returns-then-not-r
-returns-then-not-r c = unread c.requires c.arrived_fields-r.ensures.reads c.if-not-r.true
+pub returns-in_err-r : goal.returns-in_err-r
+returns-in_err-r c = rw (passed_missing c.from_residual.ensures.1 c.in_err-r.ensures.value c.in_err-r.ensures.ok_part) (unread c.requires c.arrived_fields.ensures.reads (ap (option_map _) c.in_err-r.ensures.ok_part))
 
-pub arrived-n-requires : goal.arrived-n-requires
+pub arrived-requires : goal.arrived-requires
 unfolding step
-arrived-n-requires c = record { fit_table = c.requires.ready.fit; pair_in = c.arrived_fields-r.ensures.pair_in (not-false _ c.if-not-r.false); fit_span = c.arrived_fields-r.ensures.fit_span; space = read_space c.requires c.arrived_fields-r.ensures.reads c.if-not-r.false }
-
-pub shape_of-t : goal.shape_of-t
-shape_of-t c = refl
-
-pub shape_of-out : goal.shape_of-out
-shape_of-out c = puts_length c.arrived-n.ensures.puts
+arrived-requires c = record { fit_table = c.requires.ready.fit; pair_in = rw c.in_ok-r.ensures.ok_part at c.arrived_fields.ensures.pair_in; fit_span = rw c.in_ok-r.ensures.ok_part at c.arrived_fields.ensures.fit_span; space = read_space c.requires c.arrived_fields.ensures.reads (ap (option_map _) c.in_ok-r.ensures.ok_part) }
 
 pub returns : goal.returns
 unfolding step
-returns c = read_done c.requires c.arrived_fields-r.ensures.reads c.if-not-r.false (ruled_ok c.arrived-n.ensures)
+returns c = read_done c.requires c.arrived_fields.ensures.reads (ap (option_map _) c.in_ok-r.ensures.ok_part) (ruled_ok c.arrived.ensures)

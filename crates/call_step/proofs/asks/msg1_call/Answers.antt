@@ -1,21 +1,15 @@
 -- `call_step::asks::msg1_call` meets its contract.
-use mathlib.Core.Path.{◌∙◌, sym}
-use Rattle.call_contract.specs.Did.{puts_length}
+use Rattle.std.proofs.Common.{ap}
+use Rattle.std.specs.Prelude.{option_map}
+use Rattle.refusal.specs.Passed.{passed_missing}
 use Rattle.call_kinds.specs.Ask.{unread, read_space, read_done}
-use borrow.Author.Tests.{not-false}
 use Rattle.call_step.proofs.asks.msg1_call.Goals as goal
 
-pub returns-then-not-r : goal.returns-then-not-r
-returns-then-not-r c = unread c.requires c.msg1_fields-r.ensures.reads c.if-not-r.true
+pub returns-in_err-r : goal.returns-in_err-r
+returns-in_err-r c = rw (passed_missing c.from_residual.ensures.1 c.in_err-r.ensures.value c.in_err-r.ensures.ok_part) (unread c.requires c.msg1_fields.ensures.reads (ap (option_map _) c.in_err-r.ensures.ok_part))
 
 pub msg1-requires : goal.msg1-requires
-msg1-requires c = record { ready = c.requires.ready; fit_hello = c.msg1_fields-r.ensures.fit_hello (not-false _ c.if-not-r.false); space = read_space c.requires c.msg1_fields-r.ensures.reads c.if-not-r.false }
-
-pub shape_of-t : goal.shape_of-t
-shape_of-t c = c.msg1.ensures.did.table.fit.size ∙ sym c.requires.ready.fit.size
-
-pub shape_of-out : goal.shape_of-out
-shape_of-out c = puts_length c.msg1.ensures.did.puts
+msg1-requires c = record { ready = c.requires.ready; fit_hello = rw c.in_ok-r.ensures.ok_part at c.msg1_fields.ensures.fit_hello; space = read_space c.requires c.msg1_fields.ensures.reads (ap (option_map _) c.in_ok-r.ensures.ok_part) }
 
 pub returns : goal.returns
-returns c = read_done c.requires c.msg1_fields-r.ensures.reads c.if-not-r.false c.msg1.ensures
+returns c = read_done c.requires c.msg1_fields.ensures.reads (ap (option_map _) c.in_ok-r.ensures.ok_part) c.msg1.ensures

@@ -7,11 +7,11 @@ use Rattle.gates.specs.Place.{at_place}
 use Rattle.gates.proofs.calls.silenced_for.Goals as goal
 
 pub silenced_at-requires : goal.silenced_at-requires
-silenced_at-requires c = record { fit_gates = c.requires.fit_gates; i_bound = at_place c.requires.fit_gates c.requires.place_in c.in-At.is }
+silenced_at-requires c = record { fit_gates = c.requires.fit_gates; i_bound = at_place c.requires.fit_gates c.requires.place_in c.in-Some.is }
 
-pub returns-in-At : goal.returns-in-At
-returns-in-At c = rw c.in-At.is c.silenced_at.ensures
+pub returns-in-Some : goal.returns-in-Some
+returns-in-Some c = rw c.in-Some.is c.silenced_at.ensures
 
-pub returns-in-Nothing : goal.returns-in-Nothing
+pub returns-in-None : goal.returns-in-None
 unfolding silencing
-returns-in-Nothing c = rw c.in-Nothing.is (sym (and-false (asks_silence (source_of c.args.source))))
+returns-in-None c = rw c.in-None.is (sym (and-false (asks_silence (source_of c.args.source))))

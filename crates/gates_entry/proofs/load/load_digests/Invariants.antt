@@ -1,6 +1,4 @@
-use Prim.Native.Nat.{◌-◌}
 use lib.ListN.{take, drop}
-use Rattle.node_addr.specs.View.{blank_digest}
 use Rattle.gates_types.specs.View.{FitDigest}
 use Rattle.node_addr.specs.Layout.{digest_len}
 use Rattle.gates_entry.specs.Layout.{digest_cap, digests_len}
@@ -9,7 +7,4 @@ use Rattle.gates_entry.specs.Entry.{digest_in}
 use Rattle.gates_entry.proofs.load.load_digests.Given as goal
 
 abbrev pub invariant-loop-i : goal.invariant-loop-i
-invariant-loop-i l = Fetching FitDigest digest_in digest_len digest_cap blank_digest (take digests_len (drop l.at l.s)) l.n l.i l.out.places
-
-abbrev pub decreases-loop-i : goal.decreases-loop-i
-decreases-loop-i l = l.n - l.i
+invariant-loop-i l = Fetching FitDigest digest_in digest_len digest_cap (take digests_len (drop l.at l.s)) l.i l.out

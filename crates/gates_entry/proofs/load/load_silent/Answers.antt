@@ -1,12 +1,10 @@
+use Rattle.std.specs.Prelude.{Some}
 use mathlib.Core.Path.{refl, ap}
-use mathlib.Core.Option.{some}
 use Rattle.rules.specs.Data.{Silence}
-use Rattle.gates_types.specs.View.{fit_blank_silence}
-use Rattle.std.proofs.Common.{ap}
 use Rattle.gates_entry.proofs.load.load_silent.Goals as goal
 
-pub returns-then-has_silence : goal.returns-then-has_silence
-returns-then-has_silence c = rw c.if-has_silence.true (record { fit_silence = c.load_silence.ensures.fit_silence; value = λ e. cc; result_value = ap (λ (x : Silence). some x) c.load_silence.ensures.result_value })
+pub returns-then-get_flag : goal.returns-then-get_flag
+returns-then-get_flag c = rw (← c.get_flag.ensures, c.if-get_flag.true) (record { fit_silence = c.load_silence.ensures.fit_silence; result_value = ap (λ (x : Silence). Some x) c.load_silence.ensures.result_value })
 
-pub returns : goal.returns
-returns c = rw (c.if-has_silence.false, c.blank_silence.ensures) (record { fit_silence = fit_blank_silence; value = λ e. refl; result_value = refl })
+pub returns-else-get_flag : goal.returns-else-get_flag
+returns-else-get_flag c = rw (← c.get_flag.ensures, c.if-get_flag.false) (record { fit_silence = tt; result_value = refl })

@@ -3,4 +3,4 @@ use Rattle.gates_entry.specs.Entry.{put_memory_is}
 use Rattle.gates_entry.proofs.put.put_memory.Goals as goal
 
 pub returns : goal.returns
-returns c = put_memory_is _ (wrote_then (wrote_then c.put_front-a.ensures c.put_silence-b.ensures) c.put_replays.ensures)
+returns c = put_memory_is _ (wrote_then (wrote_then (wrote_then c.put_fixed-a.ensures c.put_option-b.ensures) c.put_silent-c.ensures) c.put_replays.ensures)

@@ -2,4 +2,4 @@ use Rattle.lib_laws.specs.Splice.{wrote_then}
 use Rattle.gates_entry.proofs.put.put_replay.Goals as goal
 
 pub returns : goal.returns
-returns c = wrote_then c.put_digest-a.ensures c.put_be.ensures
+returns c = wrote_then c.put_fixed-a.ensures c.put_be.ensures

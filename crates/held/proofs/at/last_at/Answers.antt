@@ -3,4 +3,4 @@ use mathlib.Core.Path.{◌∙◌}
 use Rattle.held.proofs.at.last_at.Goals as goal
 
 pub returns : goal.returns
-returns c = c.get_be.ensures.value ∙ last_here c.requires.fit_held c.requires.i_bound
+returns c = c.get_option.ensures ∙ last_here c.requires.fit_held c.requires.i_bound

@@ -3,4 +3,4 @@ use mathlib.Core.Path.{◌∙◌}
 use Rattle.held.proofs.at.peer_at.Goals as goal
 
 pub returns : goal.returns
-returns c = c.load_node.ensures ∙ peer_here c.requires.fit_held c.requires.i_bound
+returns c = c.load_fixed.ensures ∙ peer_here c.requires.fit_held c.requires.i_bound

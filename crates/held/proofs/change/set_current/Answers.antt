@@ -8,4 +8,4 @@ pub returns-then-current_is : goal.returns-then-current_is
 returns-then-current_is c = current_kept c.args.i (view_pair c.args.p) c.requires.fit_held (sym c.current_is.ensures ∙ c.if-current_is.true)
 
 pub returns : goal.returns
-returns c = current_changed _ c.requires.fit_pair c.put_pair.ensures c.requires.fit_held c.requires.i_bound (search rules)
+returns c = current_changed _ c.args.p c.put_pair.ensures c.requires.fit_held c.requires.i_bound (search rules)

@@ -7,4 +7,4 @@ pub returns-then-stays : goal.returns-then-stays
 returns-then-stays c = current_kept _ _ c.requires.fit_held (sym c.requires.stays_value ∙ c.if-stays.true)
 
 pub returns : goal.returns
-returns c = rw c.load_wire_pair-p.ensures.result_value at (current_changed _ c.load_wire_pair-p.ensures.fit_pair c.put_pair.ensures c.requires.fit_held c.requires.i_bound (search rules))
+returns c = rw c.load_wire_pair-p.ensures at (current_changed _ _ c.put_pair.ensures c.requires.fit_held c.requires.i_bound (search rules))

@@ -1,14 +1,15 @@
-use Rattle.held.specs.Walk.{found_within, dropped, none_dropped}
-use Rattle.node_addr.specs.View.{finds_at, finds_none}
-use borrow.Author.Rules.{rules}
-use Rattle.lib_laws.specs.Both.{both}
+use Rattle.std.proofs.Common.{sym, ◌∙◌}
+use Rattle.rules.specs.Settle.{named}
+use Rattle.lib_laws.specs.Place.{without_at, without_nowhere}
+use Rattle.held.specs.View.{view_held}
+use Rattle.held.specs.Walk.{found_within}
 use Rattle.held.proofs.map.drop_held.Goals as goal
 
-pub remove_held-requires : goal.remove_held-requires
-remove_held-requires c = record { fit_held = search rules; i_bound = found_within c.args.peer.0 c.requires (finds_at c.find_held.ensures c.in-At.is) }
+pub remove_held-requires-clause-i_bound : goal.remove_held-requires-clause-i_bound
+remove_held-requires-clause-i_bound c = found_within c.args.peer.0 c.requires (sym c.in-Some.ensures)
 
-pub returns-in-At : goal.returns-in-At
-returns-in-At c = both (λ a b. record { fit_held = a; s_after = b }) (dropped c.args.peer.0 c.requires c.remove_held.ensures.fit_held_2 (finds_at c.find_held.ensures c.in-At.is) c.remove_held.ensures.s_after)
+pub returns-in-Some-clause-s_after : goal.returns-in-Some-clause-s_after
+returns-in-Some-clause-s_after c = c.remove_held.ensures.s_after ∙ sym (without_at (named c.args.peer.0) (view_held c.args.s.now) c.in-Some.i (sym c.in-Some.ensures))
 
-pub returns-in-Nothing : goal.returns-in-Nothing
-returns-in-Nothing c = both (λ a b. record { fit_held = a; s_after = b }) (none_dropped c.args.peer.0 c.requires (finds_none c.find_held.ensures c.in-Nothing.is))
+pub returns-in_default-clause-s_after : goal.returns-in_default-clause-s_after
+returns-in_default-clause-s_after c = sym (without_nowhere (named c.args.peer.0) (view_held c.args.s.now) (sym c.in_default.ensures))

@@ -1,5 +1,5 @@
 use Rattle.held.specs.Walk.{slot_insert}
-use Rattle.held.proofs.Written.{fit_bytes, held_bytes_lem}
+use Rattle.held.proofs.Written.{FitRec, fit_bytes, held_bytes_lem}
 use Rattle.held.specs.View.{held_of, view_rec}
 use Rattle.lib_laws.specs.Store.{inserted_is}
 use borrow.Author.Rules.{rules}
@@ -8,6 +8,6 @@ use Rattle.held.proofs.map.insert_held.Goals as goal
 
 pub returns : goal.returns
 returns c =
-    let v = held_bytes_lem _ c.requires.fit_rec (search rules) in
-    let r = inserted_is held_of c.requires.fit_held c.place_for-i.ensures.within c.requires.s_bound c.open_chunk.ensures c.put_held.ensures (fit_bytes _ c.requires.fit_rec) v in
+    let f : FitRec c.args.h = search rules in
+    let r = inserted_is held_of c.requires.fit_held c.place_for-i.ensures.within c.requires.s_bound c.open_chunk.ensures c.put_held.ensures (fit_bytes _ f) (held_bytes_lem _ f (search rules)) in
     record { fit_held_2 = r.0; s_after = r.1 ∙ sym (slot_insert (view_rec c.args.h) c.place_for-i.ensures c.requires.fit_held) }

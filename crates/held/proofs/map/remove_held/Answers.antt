@@ -1,8 +1,8 @@
-use Rattle.held.specs.View.{held_of, fit_zeros}
 use Rattle.lib_laws.specs.Store.{removed_is}
-use borrow.Author.Rules.{rules}
-use Rattle.lib_laws.specs.Both.{both}
+use Rattle.held.specs.View.{held_of, fit_zeros}
 use Rattle.held.proofs.map.remove_held.Goals as goal
 
 pub returns : goal.returns
-returns c = both (λ a b. record { fit_held_2 = a; s_after = b }) (removed_is held_of (search rules) (search rules) fit_zeros c.remove_chunk.ensures)
+returns c =
+    let r = removed_is held_of c.requires.fit_held c.requires.i_bound fit_zeros c.remove_chunk.ensures in
+    record { fit_held_2 = r.0; s_after = r.1 }

@@ -1,16 +1,24 @@
-use mathlib.Core.Bool.{true}
-use Rattle.input_cursor.specs.Follow.{follows_start, follows_step}
 use Rattle.rules.specs.Record.{msg2_fields}
-use Rattle.node_addr.specs.View.{fit_blank_pair}
-use Rattle.input_call.specs.Read.{reads_all, reads_none}
-use Rattle.std.proofs.Common.{ap}
-use mathlib.Core.Bool.{not}
+use Rattle.input_cursor.proofs.Field.{bound, bound_none}
+use Rattle.input_call.proofs.Read.{gave, reads_none, reads_over, reads_all}
 use Rattle.input_call.proofs.event.msg2_fields.Goals as goal
 
-pub returns-then-not-at_end : goal.returns-then-not-at_end
+pub returns-in_err-u64 : goal.returns-in_err-u64
 unfolding msg2_fields
-returns-then-not-at_end c = rw c.blank_pair-pair.ensures (record { reads = reads_none (follows_step _ (follows_step _ (follows_step _ (follows_start msg2_fields true _ _) c.next_u64-n.ensures) c.next_u64-e.ensures) c.next_pair-p.ensures.stepped) c.next_pair-p.ensures.stepped.room c.at_end.ensures (ap not c.if-not-at_end.true); fit_pair = fit_blank_pair })
+returns-in_err-u64 c = rw c.from_residual.ensures (reads_none c.new-cursor.ensures (bound_none _ c.in_err-u64.ensures))
+
+pub returns-in_err-u64-2 : goal.returns-in_err-u64-2
+unfolding msg2_fields
+returns-in_err-u64-2 c = rw c.from_residual-in_err-u64-2.ensures (reads_none c.new-cursor.ensures (bound _ c.in_ok-u64.ensures (bound_none _ c.in_err-u64-2.ensures)))
+
+pub returns-in_err-pair : goal.returns-in_err-pair
+unfolding msg2_fields
+returns-in_err-pair c = rw c.from_residual-in_err-pair.ensures (reads_none c.new-cursor.ensures (bound _ c.in_ok-u64.ensures (bound _ c.in_ok-u64-2.ensures (bound_none _ c.in_err-pair.ensures))))
+
+pub returns-in_err-end : goal.returns-in_err-end
+unfolding msg2_fields
+returns-in_err-end c = rw c.from_residual-in_err-end.ensures (reads_over c.new-cursor.ensures (bound _ c.in_ok-u64.ensures (bound _ c.in_ok-u64-2.ensures (bound _ c.in_ok-pair.ensures gave))) c.in_err-end.ensures)
 
 pub returns : goal.returns
 unfolding msg2_fields
-returns c = record { reads = reads_all (follows_step _ (follows_step _ (follows_step _ (follows_start msg2_fields true _ _) c.next_u64-n.ensures) c.next_u64-e.ensures) c.next_pair-p.ensures.stepped) c.next_pair-p.ensures.stepped.room c.at_end.ensures (ap not c.if-not-at_end.false); fit_pair = c.next_pair-p.ensures.fit_pair }
+returns c = reads_all c.new-cursor.ensures (bound _ c.in_ok-u64.ensures (bound _ c.in_ok-u64-2.ensures (bound _ c.in_ok-pair.ensures gave))) c.in_ok-end.ensures

@@ -1,20 +1,26 @@
-use mathlib.Core.Bool.{true}
-use lib.Dec.{lit<}
-use Rattle.input_cursor.specs.Follow.{follows_start, follows_step}
-use Rattle.rules.specs.Record.{path_fields}
-use Rattle.node_addr.specs.View.{fit_blank_pair}
 use Rattle.rules.specs.Data.{Live}
 use Rattle.rules.specs.Field.{states}
-use Rattle.input_cursor.specs.Row.{coded}
-use Rattle.input_call.specs.Read.{reads_all, reads_none}
-use Rattle.std.proofs.Common.{ap}
-use mathlib.Core.Bool.{not}
+use Rattle.rules.specs.Record.{path_fields}
+use Rattle.input_cursor.proofs.Field.{bound, bound_none, coded}
+use Rattle.input_call.proofs.Read.{gave, reads_none, reads_over, reads_all}
 use Rattle.input_call.proofs.event.path_fields.Goals as goal
 
-pub returns-then-not-at_end : goal.returns-then-not-at_end
+pub returns-in_err-u64-clause-reads : goal.returns-in_err-u64-clause-reads
 unfolding path_fields
-returns-then-not-at_end c = rw c.blank_pair-pair.ensures (record { reads = reads_none (follows_step _ (follows_step _ (follows_step _ (follows_start path_fields true _ _) c.next_u64-n.ensures) c.next_pair-f.ensures.stepped) (coded states Live c.next_code-v.ensures.stepped)) c.next_code-v.ensures.stepped.room c.at_end.ensures (ap not c.if-not-at_end.true); fit_pair = fit_blank_pair; state_bound = lit< tt })
+returns-in_err-u64-clause-reads c = rw c.from_residual.ensures (reads_none c.new-cursor.ensures (bound_none _ c.in_err-u64.ensures))
 
-pub returns : goal.returns
+pub returns-in_err-pair-clause-reads : goal.returns-in_err-pair-clause-reads
 unfolding path_fields
-returns c = record { reads = reads_all (follows_step _ (follows_step _ (follows_step _ (follows_start path_fields true _ _) c.next_u64-n.ensures) c.next_pair-f.ensures.stepped) (coded states Live c.next_code-v.ensures.stepped)) c.next_code-v.ensures.stepped.room c.at_end.ensures (ap not c.if-not-at_end.false); fit_pair = c.next_pair-f.ensures.fit_pair; state_bound = c.next_code-v.ensures.value_lt_k }
+returns-in_err-pair-clause-reads c = rw c.from_residual-in_err-pair.ensures (reads_none c.new-cursor.ensures (bound _ c.in_ok-u64.ensures (bound_none _ c.in_err-pair.ensures)))
+
+pub returns-in_err-code-clause-reads : goal.returns-in_err-code-clause-reads
+unfolding path_fields
+returns-in_err-code-clause-reads c = rw c.from_residual-in_err-code.ensures (reads_none c.new-cursor.ensures (bound _ c.in_ok-u64.ensures (bound _ c.in_ok-pair.ensures (bound_none _ (coded states Live c.in_err-code.ensures.took)))))
+
+pub returns-in_err-end-clause-reads : goal.returns-in_err-end-clause-reads
+unfolding path_fields
+returns-in_err-end-clause-reads c = rw c.from_residual-in_err-end.ensures (reads_over c.new-cursor.ensures (bound _ c.in_ok-u64.ensures (bound _ c.in_ok-pair.ensures (bound _ (coded states Live c.in_ok-code.ensures.took) gave))) c.in_err-end.ensures)
+
+pub returns-clause-reads : goal.returns-clause-reads
+unfolding path_fields
+returns-clause-reads c = reads_all c.new-cursor.ensures (bound _ c.in_ok-u64.ensures (bound _ c.in_ok-pair.ensures (bound _ (coded states Live c.in_ok-code.ensures.took) gave))) c.in_ok-end.ensures

@@ -1,19 +1,22 @@
-use mathlib.Core.Bool.{true}
-use lib.Dec.{lit<}
-use Rattle.input_cursor.specs.Follow.{follows_start, follows_step}
-use Rattle.rules.specs.Record.{remove_fields}
 use Rattle.rules.specs.Data.{Why}
 use Rattle.rules.specs.Field.{whys}
-use Rattle.input_cursor.specs.Row.{coded}
-use Rattle.input_call.specs.Read.{reads_all, reads_none}
-use Rattle.std.proofs.Common.{ap}
-use mathlib.Core.Bool.{not}
+use Rattle.rules.specs.Record.{remove_fields}
+use Rattle.input_cursor.proofs.Field.{bound, bound_none, coded}
+use Rattle.input_call.proofs.Read.{gave, reads_none, reads_over, reads_all}
 use Rattle.input_call.proofs.event.remove_fields.Goals as goal
 
-pub returns-then-not-at_end : goal.returns-then-not-at_end
+pub returns-in_err-fixed-clause-reads : goal.returns-in_err-fixed-clause-reads
 unfolding remove_fields
-returns-then-not-at_end c = record { reads = reads_none (follows_step _ (follows_step _ (follows_start remove_fields true _ _) c.next_peer-p.ensures) (coded whys Why.Restart c.next_code-w.ensures.stepped)) c.next_code-w.ensures.stepped.room c.at_end.ensures (ap not c.if-not-at_end.true); why_bound = lit< tt }
+returns-in_err-fixed-clause-reads c = rw c.from_residual.ensures (reads_none c.new-cursor.ensures (bound_none _ c.in_err-fixed.ensures))
 
-pub returns : goal.returns
+pub returns-in_err-code-clause-reads : goal.returns-in_err-code-clause-reads
 unfolding remove_fields
-returns c = record { reads = reads_all (follows_step _ (follows_step _ (follows_start remove_fields true _ _) c.next_peer-p.ensures) (coded whys Why.Restart c.next_code-w.ensures.stepped)) c.next_code-w.ensures.stepped.room c.at_end.ensures (ap not c.if-not-at_end.false); why_bound = c.next_code-w.ensures.value_lt_k }
+returns-in_err-code-clause-reads c = rw c.from_residual-in_err-code.ensures (reads_none c.new-cursor.ensures (bound _ c.in_ok-fixed.ensures (bound_none _ (coded whys Why.Restart c.in_err-code.ensures.took))))
+
+pub returns-in_err-end-clause-reads : goal.returns-in_err-end-clause-reads
+unfolding remove_fields
+returns-in_err-end-clause-reads c = rw c.from_residual-in_err-end.ensures (reads_over c.new-cursor.ensures (bound _ c.in_ok-fixed.ensures (bound _ (coded whys Why.Restart c.in_ok-code.ensures.took) gave)) c.in_err-end.ensures)
+
+pub returns-clause-reads : goal.returns-clause-reads
+unfolding remove_fields
+returns-clause-reads c = reads_all c.new-cursor.ensures (bound _ c.in_ok-fixed.ensures (bound _ (coded whys Why.Restart c.in_ok-code.ensures.took) gave)) c.in_ok-end.ensures

@@ -1,18 +1,23 @@
-use mathlib.Core.Bool.{true}
-use native.Mathlib.Omega.{arith}
-use lib.Dec.{lit≤}
-use Rattle.input_cursor.specs.Follow.{follows_start, follows_step}
+use Rattle.std.proofs.Common.{◌∙◌, ap, drop}
 use Rattle.rules.specs.Record.{arrived_fields}
-use Rattle.input_field.specs.Field.{never}
-use Rattle.input_call.specs.Read.{reads_all, reads_none, stepped_ok, whole_ok}
-use Rattle.std.proofs.Common.{ap}
-use mathlib.Core.Bool.{not}
+use Rattle.node_addr.specs.Place.{pair_here}
+use Rattle.input_cursor.specs.Span.{span_of}
+use Rattle.input_cursor.proofs.Field.{bound, bound_none}
+use Rattle.input_call.proofs.Read.{gave, told, reads_none, reads_over, reads_all}
 use Rattle.input_call.proofs.handshake.arrived_fields.Goals as goal
 
-pub returns-then-not-at_end : goal.returns-then-not-at_end
+pub returns-in_err-skip_pair-clause-reads : goal.returns-in_err-skip_pair-clause-reads
 unfolding arrived_fields
-returns-then-not-at_end c = record { reads = reads_none (follows_step _ (follows_step _ (follows_start arrived_fields true _ _) c.skip_pair-f.ensures.stepped) c.next_span-m.ensures.stepped) c.next_span-m.ensures.stepped.room c.at_end.ensures (ap not c.if-not-at_end.true); pair_in = λ z. never z; fit_span = record { small = lit≤ tt; room = omega arith } }
+returns-in_err-skip_pair-clause-reads c = rw c.from_residual.ensures (reads_none c.new-cursor.ensures (bound_none _ c.in_err-skip_pair.ensures.took))
 
-pub returns : goal.returns
+pub returns-in_err-span-clause-reads : goal.returns-in_err-span-clause-reads
 unfolding arrived_fields
-returns c = record { reads = reads_all (follows_step _ (follows_step _ (follows_start arrived_fields true _ _) c.skip_pair-f.ensures.stepped) c.next_span-m.ensures.stepped) c.next_span-m.ensures.stepped.room c.at_end.ensures (ap not c.if-not-at_end.false); pair_in = λ z. c.skip_pair-f.ensures.pair_in (stepped_ok c.next_span-m.ensures.stepped (whole_ok _ _ c.at_end.ensures (ap not c.if-not-at_end.false))); fit_span = c.next_span-m.ensures.fit_span }
+returns-in_err-span-clause-reads c = rw c.from_residual-in_err-span.ensures (reads_none c.new-cursor.ensures (bound _ c.in_ok-skip_pair.ensures.took (bound_none _ c.in_err-span.ensures.took)))
+
+pub returns-in_err-end-clause-reads : goal.returns-in_err-end-clause-reads
+unfolding arrived_fields
+returns-in_err-end-clause-reads c = rw c.from_residual-in_err-end.ensures (reads_over c.new-cursor.ensures (bound _ (told (ap (λ s. pair_here (drop c.in_ok-skip_pair.field-0 s)) c.new-cursor.ensures.rec) c.in_ok-skip_pair.ensures.took) (bound _ (told (ap (λ s. span_of s c.in_ok-span.field-0) (c.in_ok-skip_pair.ensures.took.rec ∙ c.new-cursor.ensures.rec)) c.in_ok-span.ensures.took) gave)) c.in_err-end.ensures)
+
+pub returns-clause-reads : goal.returns-clause-reads
+unfolding arrived_fields
+returns-clause-reads c = reads_all c.new-cursor.ensures (bound _ (told (ap (λ s. pair_here (drop c.in_ok-skip_pair.field-0 s)) c.new-cursor.ensures.rec) c.in_ok-skip_pair.ensures.took) (bound _ (told (ap (λ s. span_of s c.in_ok-span.field-0) (c.in_ok-skip_pair.ensures.took.rec ∙ c.new-cursor.ensures.rec)) c.in_ok-span.ensures.took) gave)) c.in_ok-end.ensures

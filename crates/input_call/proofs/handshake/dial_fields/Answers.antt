@@ -1,16 +1,28 @@
-use mathlib.Core.Bool.{true}
-use Rattle.input_cursor.specs.Follow.{follows_start, follows_step}
 use Rattle.rules.specs.Record.{dial_fields}
-use Rattle.node_addr.specs.View.{fit_blank_pair, fit_blank_message}
-use Rattle.input_call.specs.Read.{reads_all, reads_none}
-use Rattle.std.proofs.Common.{ap}
-use mathlib.Core.Bool.{not}
+use Rattle.input_cursor.proofs.Field.{bound, bound_none}
+use Rattle.input_call.proofs.Read.{gave, reads_none, reads_over, reads_all}
 use Rattle.input_call.proofs.handshake.dial_fields.Goals as goal
 
-pub returns-then-not-at_end : goal.returns-then-not-at_end
+pub returns-in_err-fixed : goal.returns-in_err-fixed
 unfolding dial_fields
-returns-then-not-at_end c = rw (c.blank_pair-pair.ensures, c.blank_message-message.ensures) (record { reads = reads_none (follows_step _ (follows_step _ (follows_step _ (follows_step _ (follows_start dial_fields true _ _) c.next_peer-p.ensures) c.next_pair-t.ensures.stepped) c.next_message-m.ensures.stepped) c.next_u32-l.ensures) c.next_u32-l.ensures.room c.at_end.ensures (ap not c.if-not-at_end.true); fit_pair = fit_blank_pair; fit_message = fit_blank_message })
+returns-in_err-fixed c = rw c.from_residual.ensures (reads_none c.new-cursor.ensures (bound_none _ c.in_err-fixed.ensures))
+
+pub returns-in_err-pair : goal.returns-in_err-pair
+unfolding dial_fields
+returns-in_err-pair c = rw c.from_residual-in_err-pair.ensures (reads_none c.new-cursor.ensures (bound _ c.in_ok-fixed.ensures (bound_none _ c.in_err-pair.ensures)))
+
+pub returns-in_err-message : goal.returns-in_err-message
+unfolding dial_fields
+returns-in_err-message c = rw c.from_residual-in_err-message.ensures (reads_none c.new-cursor.ensures (bound _ c.in_ok-fixed.ensures (bound _ c.in_ok-pair.ensures (bound_none _ c.in_err-message.ensures))))
+
+pub returns-in_err-u32 : goal.returns-in_err-u32
+unfolding dial_fields
+returns-in_err-u32 c = rw c.from_residual-in_err-u32.ensures (reads_none c.new-cursor.ensures (bound _ c.in_ok-fixed.ensures (bound _ c.in_ok-pair.ensures (bound _ c.in_ok-message.ensures (bound_none _ c.in_err-u32.ensures)))))
+
+pub returns-in_err-end : goal.returns-in_err-end
+unfolding dial_fields
+returns-in_err-end c = rw c.from_residual-in_err-end.ensures (reads_over c.new-cursor.ensures (bound _ c.in_ok-fixed.ensures (bound _ c.in_ok-pair.ensures (bound _ c.in_ok-message.ensures (bound _ c.in_ok-u32.ensures gave)))) c.in_err-end.ensures)
 
 pub returns : goal.returns
 unfolding dial_fields
-returns c = record { reads = reads_all (follows_step _ (follows_step _ (follows_step _ (follows_step _ (follows_start dial_fields true _ _) c.next_peer-p.ensures) c.next_pair-t.ensures.stepped) c.next_message-m.ensures.stepped) c.next_u32-l.ensures) c.next_u32-l.ensures.room c.at_end.ensures (ap not c.if-not-at_end.false); fit_pair = c.next_pair-t.ensures.fit_pair; fit_message = c.next_message-m.ensures.fit_message }
+returns c = reads_all c.new-cursor.ensures (bound _ c.in_ok-fixed.ensures (bound _ c.in_ok-pair.ensures (bound _ c.in_ok-message.ensures (bound _ c.in_ok-u32.ensures gave)))) c.in_ok-end.ensures

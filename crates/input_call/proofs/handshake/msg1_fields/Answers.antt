@@ -1,16 +1,22 @@
-use mathlib.Core.Bool.{true}
-use Rattle.input_cursor.specs.Follow.{follows_start, follows_step}
-use Rattle.rules.specs.Record.{msg1_fields}
-use Rattle.input_field.specs.Field.{never}
-use Rattle.input_call.specs.Read.{reads_all, reads_none, stepped_ok, whole_ok}
 use Rattle.std.proofs.Common.{ap}
-use mathlib.Core.Bool.{not}
+use Rattle.rules.specs.Record.{msg1_fields}
+use Rattle.input_cursor.proofs.Field.{bound, bound_none}
+use Rattle.input_call.specs.Hello.{hello_of}
+use Rattle.input_call.proofs.Read.{gave, told, reads_none, reads_over, reads_all}
 use Rattle.input_call.proofs.handshake.msg1_fields.Goals as goal
 
-pub returns-then-not-at_end : goal.returns-then-not-at_end
+pub returns-in_err-next_hello-clause-reads : goal.returns-in_err-next_hello-clause-reads
 unfolding msg1_fields
-returns-then-not-at_end c = rw c.blank_hello-hello.ensures (record { reads = reads_none (follows_step _ (follows_step _ (follows_start msg1_fields true _ _) c.next_hello-h.ensures.stepped) c.next_flag-f.ensures) c.next_flag-f.ensures.room c.at_end.ensures (ap not c.if-not-at_end.true); fit_hello = λ z. never z })
+returns-in_err-next_hello-clause-reads c = rw c.from_residual.ensures (reads_none c.new-cursor.ensures (bound_none _ c.in_err-next_hello.ensures.took))
 
-pub returns : goal.returns
+pub returns-in_err-flag-clause-reads : goal.returns-in_err-flag-clause-reads
 unfolding msg1_fields
-returns c = record { reads = reads_all (follows_step _ (follows_step _ (follows_start msg1_fields true _ _) c.next_hello-h.ensures.stepped) c.next_flag-f.ensures) c.next_flag-f.ensures.room c.at_end.ensures (ap not c.if-not-at_end.false); fit_hello = λ z. c.next_hello-h.ensures.fit_hello (stepped_ok c.next_flag-f.ensures (whole_ok _ _ c.at_end.ensures (ap not c.if-not-at_end.false))) }
+returns-in_err-flag-clause-reads c = rw c.from_residual-in_err-flag.ensures (reads_none c.new-cursor.ensures (bound _ c.in_ok-next_hello.ensures.took (bound_none _ c.in_err-flag.ensures)))
+
+pub returns-in_err-end-clause-reads : goal.returns-in_err-end-clause-reads
+unfolding msg1_fields
+returns-in_err-end-clause-reads c = rw c.from_residual-in_err-end.ensures (reads_over c.new-cursor.ensures (bound _ (told (ap (λ s. hello_of s c.in_ok-next_hello.field-0) c.new-cursor.ensures.rec) c.in_ok-next_hello.ensures.took) (bound _ c.in_ok-flag.ensures gave)) c.in_err-end.ensures)
+
+pub returns-clause-reads : goal.returns-clause-reads
+unfolding msg1_fields
+returns-clause-reads c = reads_all c.new-cursor.ensures (bound _ (told (ap (λ s. hello_of s c.in_ok-next_hello.field-0) c.new-cursor.ensures.rec) c.in_ok-next_hello.ensures.took) (bound _ c.in_ok-flag.ensures gave)) c.in_ok-end.ensures

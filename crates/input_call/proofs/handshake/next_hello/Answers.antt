@@ -1,28 +1,46 @@
-use mathlib.Core.Bool.{true}
-use borrow.Author.Tests.{not-false}
+use Rattle.std.proofs.Common.{◌∙◌, ap, drop}
 use Rattle.rules.specs.Record.{hello}
-use Rattle.input_field.specs.Field.{never}
-use Rattle.input_cursor.specs.Follow.{follows_start, follows_step, follows_read, follows_none}
-use Rattle.input_call.specs.Read.{stepped_ok}
+use Rattle.node_addr.specs.Place.{pair_here}
+use Rattle.input_cursor.specs.Span.{span_of}
+use Rattle.input_cursor.proofs.Field.{bound, bound_none}
+use Rattle.input_call.proofs.Read.{gave, told}
 use Rattle.input_call.proofs.handshake.next_hello.Goals as goal
 
-pub returns-then-not-l : goal.returns-then-not-l
+pub returns-in_err-fixed-clause-took : goal.returns-in_err-fixed-clause-took
 unfolding hello
-returns-then-not-l c =
-    let x = follows_step _ (follows_step _ (follows_step _ (follows_start hello true _ _) c.next_peer-p.ensures) c.skip_pair-f.ensures.stepped) c.next_span-b.ensures.stepped in
-    let y = follows_step _ (follows_step _ (follows_step _ x c.next_digest-d.ensures) c.next_u64-e.ensures) c.next_span-m.ensures.stepped in
-    rw c.blank_hello-hello.ensures (record { stepped = follows_none (follows_step _ y c.next_u32-l.ensures) c.if-not-l.true; fit_hello = λ z. never z })
+returns-in_err-fixed-clause-took c = rw c.from_residual.ensures (bound_none _ c.in_err-fixed.ensures)
 
-pub returns : goal.returns
+pub returns-in_err-skip_pair-clause-took : goal.returns-in_err-skip_pair-clause-took
 unfolding hello
-returns c =
-    let x = follows_step _ (follows_step _ (follows_step _ (follows_start hello true _ _) c.next_peer-p.ensures) c.skip_pair-f.ensures.stepped) c.next_span-b.ensures.stepped in
-    let y = follows_step _ (follows_step _ (follows_step _ x c.next_digest-d.ensures) c.next_u64-e.ensures) c.next_span-m.ensures.stepped in
-    record {
-      stepped = follows_read (follows_step _ y c.next_u32-l.ensures) c.if-not-l.false c.next_u32-l.ensures.room;
-      fit_hello = λ z. record {
-        pair = c.skip_pair-f.ensures.pair_in (stepped_ok c.next_span-b.ensures.stepped (stepped_ok c.next_digest-d.ensures (stepped_ok c.next_u64-e.ensures (stepped_ok c.next_span-m.ensures.stepped (stepped_ok c.next_u32-l.ensures (not-false _ c.if-not-l.false))))));
-        message = c.next_span-b.ensures.fit_span;
-        msg2 = c.next_span-m.ensures.fit_span;
-      };
-    }
+returns-in_err-skip_pair-clause-took c = rw c.from_residual-in_err-skip_pair.ensures (bound _ c.in_ok-fixed.ensures (bound_none _ c.in_err-skip_pair.ensures.took))
+
+pub returns-in_err-span-clause-took : goal.returns-in_err-span-clause-took
+unfolding hello
+returns-in_err-span-clause-took c = rw c.from_residual-in_err-span.ensures (bound _ c.in_ok-fixed.ensures (bound _ c.in_ok-skip_pair.ensures.took (bound_none _ c.in_err-span.ensures.took)))
+
+pub returns-in_err-fixed-2-clause-took : goal.returns-in_err-fixed-2-clause-took
+unfolding hello
+returns-in_err-fixed-2-clause-took c = rw c.from_residual-in_err-fixed-2.ensures (bound _ c.in_ok-fixed.ensures (bound _ c.in_ok-skip_pair.ensures.took (bound _ c.in_ok-span.ensures.took (bound_none _ c.in_err-fixed-2.ensures))))
+
+pub returns-in_err-u64-clause-took : goal.returns-in_err-u64-clause-took
+unfolding hello
+returns-in_err-u64-clause-took c = rw c.from_residual-in_err-u64.ensures (bound _ c.in_ok-fixed.ensures (bound _ c.in_ok-skip_pair.ensures.took (bound _ c.in_ok-span.ensures.took (bound _ c.in_ok-fixed-2.ensures (bound_none _ c.in_err-u64.ensures)))))
+
+pub returns-in_err-span-2-clause-took : goal.returns-in_err-span-2-clause-took
+unfolding hello
+returns-in_err-span-2-clause-took c = rw c.from_residual-in_err-span-2.ensures (bound _ c.in_ok-fixed.ensures (bound _ c.in_ok-skip_pair.ensures.took (bound _ c.in_ok-span.ensures.took (bound _ c.in_ok-fixed-2.ensures (bound _ c.in_ok-u64.ensures (bound_none _ c.in_err-span-2.ensures.took))))))
+
+pub returns-in_err-u32-clause-took : goal.returns-in_err-u32-clause-took
+unfolding hello
+returns-in_err-u32-clause-took c = rw c.from_residual-in_err-u32.ensures (bound _ c.in_ok-fixed.ensures (bound _ c.in_ok-skip_pair.ensures.took (bound _ c.in_ok-span.ensures.took (bound _ c.in_ok-fixed-2.ensures (bound _ c.in_ok-u64.ensures (bound _ c.in_ok-span-2.ensures.took (bound_none _ c.in_err-u32.ensures)))))))
+
+pub returns-clause-took : goal.returns-clause-took
+unfolding hello
+returns-clause-took c =
+    bound _ c.in_ok-fixed.ensures (
+    bound _ (told (ap (λ s. pair_here (drop c.in_ok-skip_pair.field-0 s)) c.in_ok-fixed.ensures.rec) c.in_ok-skip_pair.ensures.took) (
+    bound _ (told (ap (λ s. span_of s c.in_ok-span.field-0) (c.in_ok-skip_pair.ensures.took.rec ∙ c.in_ok-fixed.ensures.rec)) c.in_ok-span.ensures.took) (
+    bound _ c.in_ok-fixed-2.ensures (
+    bound _ c.in_ok-u64.ensures (
+    bound _ (told (ap (λ s. span_of s c.in_ok-span-2.field-0) (c.in_ok-u64.ensures.rec ∙ c.in_ok-fixed-2.ensures.rec ∙ c.in_ok-span.ensures.took.rec ∙ c.in_ok-skip_pair.ensures.took.rec ∙ c.in_ok-fixed.ensures.rec)) c.in_ok-span-2.ensures.took) (
+    bound _ c.in_ok-u32.ensures gave))))))

@@ -1,18 +1,16 @@
-use Rattle.legs.specs.Walk.{scanning_start, scanning_hit, scanning_skip, scanning_end}
+-- `legs::map::find_leg` meets its contract.
+use Rattle.legs.specs.Walk.{places_find, given_back}
+use Rattle.legs_entry.specs.View.{view_legs, no_leg}
 use Rattle.rules.specs.Legs.{on_link}
-use borrow.Author.Tests.{eq-eqb, ne_eqb}
-use mathlib.Core.Path.{◌∙◌, sym}
-use borrow.Author.Rules.{rules}
+use Rattle.std.proofs.Common.{refl, ◌∙◌, get_or, rules, arith}
+use Rattle.std.proofs.lemmas.Iterator.{YieldsList-from_range}
+use Rattle.std.proofs.lemmas.Iterator.Search.{find_from_yields_List}
+use borrow.Author.Tests.{tests}
 use Rattle.legs.proofs.map.find_leg.Goals as goal
 
-pub loop-i-init : goal.loop-i-init
-loop-i-init c = scanning_start (on_link _) 0 c.requires c.leg_count-end.ensures.value (search rules)
-
-pub returns-then-k-l : goal.returns-then-k-l
-returns-then-k-l c = scanning_hit c.loop-i.invariant (search rules) (eq-eqb _ _ (c.if-k-l.true ∙ c.link_at-l.ensures))
-
-pub loop-i-preserved : goal.loop-i-preserved
-loop-i-preserved c = scanning_skip c.loop-i.invariant (search rules) (ne_eqb _ _ (λ e. c.if-k-l.false (e ∙ sym c.link_at-l.ensures)))
-
 pub returns : goal.returns
-returns c = scanning_end c.loop-i.invariant (search rules)
+returns c =
+    let xs = view_legs c.args.s.now in
+    let n = c.leg_count-end.result in
+    given_back (find_from_yields_List (λ i. on_link c.args.n.0 (get_or xs i no_leg)) _ _ c.find.result c.find.ensures.ran (YieldsList-from_range 0 n n refl (omega arith)) (λ x b q k. search (rules, tests)))
+    ∙ places_find xs no_leg (on_link c.args.n.0) n 0 (omega arith)

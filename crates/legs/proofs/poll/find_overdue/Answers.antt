@@ -1,17 +1,16 @@
-use Rattle.legs_entry.specs.View.{leg_at}
-use Rattle.legs.specs.Walk.{scanning_start, scanning_hit, scanning_skip, scanning_end}
-use Rattle.legs_entry.specs.At.{past_deadline, past_yes, past_no}
-use borrow.Author.Rules.{rules}
+-- `legs::poll::find_overdue` meets its contract.
+use Rattle.legs.specs.Walk.{places_find, given_back}
+use Rattle.legs_entry.specs.At.{past_deadline}
+use Rattle.legs_entry.specs.View.{view_legs, no_leg}
+use Rattle.std.proofs.Common.{refl, ◌∙◌, get_or, rules, arith}
+use Rattle.std.proofs.lemmas.Iterator.{YieldsList-from_range}
+use Rattle.std.proofs.lemmas.Iterator.Search.{find_from_yields_List}
+use borrow.Author.Tests.{tests}
 use Rattle.legs.proofs.poll.find_overdue.Goals as goal
 
-pub loop-i-init : goal.loop-i-init
-loop-i-init c = scanning_start (past_deadline _) 0 c.requires c.leg_count-n.ensures.value (search rules)
-
-pub returns-then-deadline_at-clock : goal.returns-then-deadline_at-clock
-returns-then-deadline_at-clock c = scanning_hit c.loop-i.invariant (search rules) (past_yes (leg_at c.args.s.now c.loop-i.i) c.deadline_at.ensures c.if-deadline_at-clock.true)
-
-pub loop-i-preserved : goal.loop-i-preserved
-loop-i-preserved c = scanning_skip c.loop-i.invariant (search rules) (past_no (leg_at c.args.s.now c.loop-i.i) c.deadline_at.ensures (search rules))
-
 pub returns : goal.returns
-returns c = scanning_end c.loop-i.invariant (search rules)
+returns c =
+    let xs = view_legs c.args.s.now in
+    let n = c.leg_count-n.result in
+    given_back (find_from_yields_List (λ i. past_deadline c.args.clock (get_or xs i no_leg)) _ _ c.find.result c.find.ensures.ran (YieldsList-from_range 0 n n refl (omega arith)) (λ x b q k. search (rules, tests)))
+    ∙ places_find xs no_leg (past_deadline c.args.clock) n 0 (omega arith)

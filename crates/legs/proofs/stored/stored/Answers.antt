@@ -1,9 +1,7 @@
-use Rattle.legs.specs.Addresses.{links_count}
-use Rattle.legs.specs.Stored.{reaching_start, reaching_in, reaching_hit, reaching_skip, reaching_end, looking_start, looking_hit, looking_skip, looking_end, looking_none, tells_no}
+use Rattle.legs.specs.Stored.{links_count, reaching_start, reaching_in, reaching_hit, reaching_skip, reaching_end, looking_start, looking_hit, looking_skip, looking_end, looking_none, tells_no}
 use Rattle.links_entry.specs.View.{no_link}
 use mathlib.Core.Path.{refl, sym, ◌∙◌}
 use native.Mathlib.Omega.{arith}
-use borrow.Author.Rules.{rules}
 use Rattle.legs.proofs.stored.stored.Goals as goal
 
 pub returns-then-leg_count-eq0 : goal.returns-then-leg_count-eq0
@@ -12,17 +10,20 @@ returns-then-leg_count-eq0 c = tells_no (looking_none _ _ _ _ (sym c.leg_count.e
 pub search-init : goal.search-init
 search-init c = (looking_start _ _ _ _ c.link_count-end.ensures, refl)
 
-pub no_at-l-requires : goal.no_at-l-requires
-no_at-l-requires c = record { fit_links = search rules; i_bound = omega (arith, links_count c.requires.fit_links) }
+pub no_at-l-requires-clause-i_bound : goal.no_at-l-requires-clause-i_bound
+no_at-l-requires-clause-i_bound c = omega (arith, links_count c.requires.fit_links, c.search.invariant.0.within)
 
-pub addresses-k-requires : goal.addresses-k-requires
-addresses-k-requires c = record { fit_links = search rules; i_bound = omega (arith, links_count c.requires.fit_links) }
+pub addresses-j-end-requires-clause-i_bound : goal.addresses-j-end-requires-clause-i_bound
+addresses-j-end-requires-clause-i_bound c = omega (arith, links_count c.requires.fit_links, c.search.invariant.0.within)
 
 pub loop-j-init : goal.loop-j-init
-loop-j-init c = (reaching_start _ _ _ _ _ c.no_at-l.ensures c.yielding-f.ensures c.addresses-k.ensures, c.search.invariant.1)
+loop-j-init c = (reaching_start _ _ _ _ _ c.no_at-l.ensures c.yielding-f.ensures c.addresses-j-end.ensures, c.search.invariant.1)
 
-pub reached-requires : goal.reached-requires
-reached-requires c = record { fit_links = search rules; i_bound = omega (arith, links_count c.requires.fit_links); pair_in = search rules; j_in_bounds = reaching_in c.loop-j.invariant.0 c.loop-j-test.true }
+pub reached-requires-clause-i_bound : goal.reached-requires-clause-i_bound
+reached-requires-clause-i_bound c = omega (arith, links_count c.requires.fit_links, c.search.invariant.0.within)
+
+pub reached-requires-clause-j_in_bounds : goal.reached-requires-clause-j_in_bounds
+reached-requires-clause-j_in_bounds c = reaching_in c.loop-j.invariant.0 c.loop-j-test.true
 
 pub loop-j-preserved : goal.loop-j-preserved
 loop-j-preserved c = (reaching_skip c.loop-j.invariant.0 c.loop-j-test.true c.reached.ensures c.if-reached.false, c.loop-j.invariant.1)

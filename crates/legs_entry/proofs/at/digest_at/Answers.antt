@@ -4,4 +4,4 @@ use mathlib.Core.Path.{◌∙◌}
 use Rattle.legs_entry.proofs.at.digest_at.Goals as goal
 
 pub returns : goal.returns
-returns c = c.load_digest.ensures ∙ digest_here c.requires.fit_legs c.requires.i_bound
+returns c = c.load_fixed.ensures ∙ digest_here c.requires.fit_legs c.requires.i_bound

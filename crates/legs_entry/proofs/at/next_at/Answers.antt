@@ -4,4 +4,4 @@ use mathlib.Core.Path.{◌∙◌}
 use Rattle.legs_entry.proofs.at.next_at.Goals as goal
 
 pub returns : goal.returns
-returns c = c.get_be.ensures.value ∙ next_here c.requires.fit_legs c.requires.i_bound
+returns c = c.get_option.ensures ∙ next_here c.requires.fit_legs c.requires.i_bound

@@ -4,4 +4,4 @@ use mathlib.Core.Path.{◌∙◌}
 use Rattle.legs_entry.proofs.at.peer_at.Goals as goal
 
 pub returns : goal.returns
-returns c = c.load_node.ensures ∙ peer_here c.requires.fit_legs c.requires.i_bound
+returns c = c.load_optional.ensures ∙ peer_here c.requires.fit_legs c.requires.i_bound

@@ -1,6 +1,7 @@
 -- `legs_entry::at::stored_at` meets its contract.
 use Rattle.legs_entry.specs.At.{off, on, stored_dial, stored_unsent, stored_other, stored_same}
-use mathlib.Core.Path.{◌≡◌}
+use borrow.Author.Tests.{ne_eqb}
+use mathlib.Core.Path.{◌≡◌, ◌∙◌}
 use native.Mathlib.Omega.{arith}
 use lib.ListN.{length, take, drop, length-take, length-drop}
 use Rattle.std.proofs.Common.{ap}
@@ -13,10 +14,10 @@ returns-then-not-answers_at c = stored_dial _ _ (off c.answers_at.ensures (ap no
 pub returns-then-not-answer_sent_at : goal.returns-then-not-answer_sent_at
 returns-then-not-answer_sent_at c = stored_unsent _ _ (on c.answers_at.ensures (ap not c.if-not-answers_at.false)) (off c.answer_sent_at.ensures (ap not c.if-not-answer_sent_at.true))
 
-pub returns-then-k-n : goal.returns-then-k-n
-returns-then-k-n c =
-    let h : length (take c.args.n (drop c.args.at c.args.rec.now)) ≡ c.args.n = simp (length-take, length-drop) (omega arith) in
-    stored_other _ _ (on c.answers_at.ensures (ap not c.if-not-answers_at.false)) (on c.answer_sent_at.ensures (ap not c.if-not-answer_sent_at.false)) c.msg1_len_at-k.ensures h c.if-k-n.true
+pub returns-then-msg1_len_at-n : goal.returns-then-msg1_len_at-n
+returns-then-msg1_len_at-n c = stored_same _ _ (on c.answers_at.ensures (ap not c.if-not-answers_at.false)) (on c.answer_sent_at.ensures (ap not c.if-not-answer_sent_at.false)) c.msg1_len_at.ensures c.if-msg1_len_at-n.true c.eq_bytes.ensures
 
-pub returns : goal.returns
-returns c = stored_same _ _ (on c.answers_at.ensures (ap not c.if-not-answers_at.false)) (on c.answer_sent_at.ensures (ap not c.if-not-answer_sent_at.false)) c.msg1_len_at-k.ensures c.if-k-n.false c.eq_bytes.ensures
+pub returns-else-msg1_len_at-n : goal.returns-else-msg1_len_at-n
+returns-else-msg1_len_at-n c =
+    let h : length (take c.args.n (drop c.args.at c.args.rec.now)) ≡ c.args.n = simp (length-take, length-drop) (omega arith) in
+    ne_eqb _ _ c.if-msg1_len_at-n.false ∙ stored_other _ _ (on c.answers_at.ensures (ap not c.if-not-answers_at.false)) (on c.answer_sent_at.ensures (ap not c.if-not-answer_sent_at.false)) c.msg1_len_at.ensures h c.if-msg1_len_at-n.false

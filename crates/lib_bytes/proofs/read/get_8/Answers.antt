@@ -1,10 +1,8 @@
--- `lib_bytes::read::get_8` meets its contract.
-use native.Mathlib.Omega.{arith}
-use mathlib.Core.Path.{◌∙◌}
-use Rattle.lib_laws.specs.Little.{lows_run}
+use Rattle.std.proofs.Common.{arith, ◌≡◌, length, length-take-le, length-drop}
+use Rattle.lib_laws.specs.Numbers.{more_eight}
 use Rattle.lib_bytes.proofs.read.get_8.Goals as goal
 
-pub returns : goal.returns
-returns c =
-    let v = c.args in
-    record { value = c.bswap_8.ensures.value ∙ rw (c.word_8.ensures, lows_run 8 v.s.now v.at (omega arith) c.type_inv.s); upper_bound = c.bswap_8.ensures.upper_bound }
+pub returns-clause-value : goal.returns-clause-value
+returns-clause-value c =
+    let l : length c.take.result ≡ 8 = rw (c.take.ensures) (length-take-le 8 _ (rw length-drop (omega arith))) in
+    rw c.take.ensures at (more_eight c.take.result c.from_be_bytes.result l c.from_be_bytes.ensures)

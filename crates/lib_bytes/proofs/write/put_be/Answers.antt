@@ -1,12 +1,11 @@
--- `lib_bytes::write::put_be` meets its contract.
-use Rattle.lib_laws.specs.Little.{put_turned}
+use Rattle.lib_laws.specs.Numbers.{digits_two, digits_four, digits_eight}
 use Rattle.lib_bytes.proofs.write.put_be.Goals as goal
 
-pub returns-then-n-eq8 : goal.returns-then-n-eq8
-returns-then-n-eq8 c = rw c.if-n-eq8.true (put_turned 8 _ _ c.bswap_8.ensures.value c.store_8.ensures)
+pub returns-in-8 : goal.returns-in-8
+returns-in-8 c = rw (c.in-8.is, ← digits_eight c.args.v, ← c.to_be_bytes.ensures) c.put.ensures
 
-pub returns-then-n-eq4 : goal.returns-then-n-eq4
-returns-then-n-eq4 c = rw c.if-n-eq4.true (put_turned 4 _ _ c.bswap_4.ensures.value c.store_4.ensures)
+pub returns-in-4 : goal.returns-in-4
+returns-in-4 c = rw (c.in-4.is, ← digits_four c.args.v, ← c.to_be_bytes-in-4.ensures) c.put-in-4.ensures
 
-pub returns-then-n-eq2 : goal.returns-then-n-eq2
-returns-then-n-eq2 c = rw c.if-n-eq2.true (put_turned 2 _ _ c.bswap_2.ensures c.store_2.ensures)
+pub returns-in-2 : goal.returns-in-2
+returns-in-2 c = rw (c.in-2.is, ← digits_two c.args.v, ← c.to_be_bytes-in-2.ensures) c.put-in-2.ensures

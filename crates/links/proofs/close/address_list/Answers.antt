@@ -1,20 +1,26 @@
-use Rattle.lib_laws.specs.Shift.{fit_at}
 use Rattle.links.specs.Close.{listing_end, listing_start, listing_turn}
-use Rattle.links_entry.specs.View.{view_path}
+use Rattle.links_entry.specs.declared.record.Path as path
+use Rattle.node_addr.specs.View.{view_pair}
 use borrow.Author.Rules.{rules}
-use mathlib.Core.Path.{◌∙◌}
+use mathlib.Core.List.{[], ◌∷◌, map-append}
+use mathlib.Core.Path.{◌∙◌, ap, sym}
 use native.Mathlib.Omega.{arith}
-use Rattle.lib_laws.specs.Both.{both}
+use Rattle.std.proofs.Common.{ap}
+use Rattle.std.proofs.Math.ListN.{get_or-map}
+use Rattle.std.proofs.lemmas.List.{length-map}
 use Rattle.links.proofs.close.address_list.Goals as goal
 
-pub loop-j-init : goal.loop-j-init
-loop-j-init c = listing_start _ _ c.requires c.push-out.ensures.fit_closes_2 (omega (arith, c.push-out.ensures.len_value, c.no_closes.ensures.len_value)) (c.push-out.ensures.result_value ∙ rw c.no_closes.ensures.result_value)
+pub loop-w-init : goal.loop-w-init
+loop-w-init c =
+    rw c.as_slice-paths.ensures.value
+    (listing_start c.args.r (rw (c.push.ensures.items, map-append view_pair c.no_closes-out.result.items (c.args.r.setup ∷ []), c.no_closes-out.ensures)))
 
-pub list_once-out-requires : goal.list_once-out-requires
-list_once-out-requires c = record { fit_closes = c.loop-j.invariant.fit; len_bound = omega (arith, c.loop-j.invariant.few, c.requires.paths.small); fit_pair = fit_at view_path _ _ c.requires.paths (search rules) }
+pub list_once-requires : goal.list_once-requires
+list_once-requires c = omega (arith, c.loop-w.invariant.few, c.as_slice-paths.ensures.fits, c.loop-w-test.true)
 
-pub loop-j-preserved : goal.loop-j-preserved
-loop-j-preserved c = listing_turn c.loop-j.invariant _ (search rules) c.list_once-out.ensures.fit_closes_2 c.list_once-out.ensures.len_bound_2 c.list_once-out.ensures.result_value
+pub loop-w-preserved : goal.loop-w-preserved
+loop-w-preserved c =
+    listing_turn c.loop-w.invariant (rw length-map c.loop-w-test.true) (sym (get_or-map (λ (w : path.Path). view_pair w.pair) c.as_slice-paths.result.now c.loop-w.w-index c.w-item.result ∙ ap (λ (w : path.Path). view_pair w.pair) (sym c.w-item.is))) c.list_once.ensures
 
 pub returns : goal.returns
-returns c = both (λ a b. record { fit_closes = a; result_value = b }) (listing_end c.loop-j.invariant (search rules))
+returns c = listing_end c.loop-w.invariant (rw length-map (search rules))

@@ -6,4 +6,4 @@ use Rattle.lib_laws.specs.Both.{both}
 use Rattle.links.proofs.write.hold_at.Goals as goal
 
 pub returns : goal.returns
-returns c = both (λ a b. record { fit_links_2 = a; s_after = b }) (held_is (wrote_then c.put_byte-a.ensures c.put_16.ensures) (search rules) (search rules) (search rules))
+returns c = both (λ a b. record { fit_links_2 = a; s_after = b }) (held_is (wrote_then c.put_byte-a.ensures c.put_fixed.ensures) (search rules) (search rules) (search rules))

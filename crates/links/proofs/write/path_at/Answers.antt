@@ -10,7 +10,7 @@ use Rattle.std.proofs.Common.{ap}
 use Rattle.links.proofs.write.path_at.Goals as goal
 
 pub put_path-requires : goal.put_path-requires
-put_path-requires c = record { fit_paths = paths_lent c.requires.fit_links c.requires.i_bound; fit_pair = c.requires.fit_pair; s_value = ap (full (view_pair c.args.p)) (paths_show c.requires.fit_links c.requires.i_bound) ∙ c.requires.no_link_value }
+put_path-requires c = record { fit_paths = paths_lent c.requires.fit_links c.requires.i_bound; s_value = ap (full (view_pair c.args.p)) (paths_show c.requires.fit_links c.requires.i_bound) ∙ c.requires.no_link_value }
 
 pub returns : goal.returns
 returns c = both (λ a b. record { fit_links_2 = a; s_after = b }) (paths_are (set_path (view_pair c.args.p) (view_proven c.args.v)) c.requires.fit_links c.requires.i_bound c.put_path.ensures.fit_paths_2 c.put_path.ensures.s_after)

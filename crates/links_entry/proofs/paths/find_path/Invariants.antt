@@ -1,5 +1,4 @@
 -- `links_entry::paths::find_path` meets its contract.
-use Prim.Native.Nat.{◌-◌}
 use Rattle.lib_laws.specs.Chunk.{chunks}
 use Rattle.lib_laws.specs.Scan.{Ahead, scan}
 use Rattle.links_entry.specs.Layout.{path_cap, path_width}
@@ -10,6 +9,3 @@ use Rattle.links_entry.proofs.paths.find_path.Given as goal
 
 abbrev pub invariant-loop-j : goal.invariant-loop-j
 invariant-loop-j l = Ahead (scan (path_at (view_pair l.p)) 0 (view_paths l.s)) (path_at (view_pair l.p)) path_of l.n (chunks path_width path_cap l.s) l.j
-
-abbrev pub decreases-loop-j : goal.decreases-loop-j
-decreases-loop-j l = l.n - l.j

@@ -1,5 +1,4 @@
 -- `links_entry::paths::proves` meets its contract.
-use Prim.Native.Nat.{◌-◌}
 use Rattle.lib_laws.specs.Chunk.{chunks}
 use Rattle.links_entry.specs.Layout.{path_cap, path_width}
 use Rattle.links_entry.specs.Asking.{Asking}
@@ -11,6 +10,3 @@ use Rattle.links_entry.proofs.paths.proves.Given as goal
 
 abbrev pub invariant-loop-j : goal.invariant-loop-j
 invariant-loop-j l = Asking (any (proven_at (view_pair l.p)) (view_paths l.s)) (proven_at (view_pair l.p)) path_of l.n (chunks path_width path_cap l.s) l.j
-
-abbrev pub decreases-loop-j : goal.decreases-loop-j
-decreases-loop-j l = l.n - l.j

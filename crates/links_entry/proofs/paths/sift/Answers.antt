@@ -1,7 +1,5 @@
 -- `links_entry::paths::sift` meets its contract.
-use Prim.Native.Nat.{◌<◌}
 use Rattle.links_entry.specs.Here.{path_cell, pathing, sift_drop, sift_pass}
-use Rattle.links_entry.specs.View.{path_count}
 use Rattle.node_addr.specs.View.{view_pair}
 use borrow.Author.Rules.{rules}
 use Rattle.links_entry.proofs.paths.sift.Goals as goal
@@ -10,9 +8,7 @@ pub overflow_mul-j : goal.overflow_mul-j
 overflow_mul-j c = search pathing
 
 pub eq_pair_at-requires : goal.eq_pair_at-requires
-eq_pair_at-requires c =
-    let h : c.args.j < path_count c.args.s.now = c.requires.j_bound in
-    record { fit_pair = search rules; pair_width_in_bounds = search rules; is_pair = path_cell c.requires.fit_paths h }
+eq_pair_at-requires c = record { pair_width_in_bounds = search rules; is_pair = path_cell c.requires.fit_paths c.requires.j_bound }
 
 pub remove_path-requires : goal.remove_path-requires
 remove_path-requires c = search pathing

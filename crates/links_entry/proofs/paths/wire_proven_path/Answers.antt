@@ -1,21 +1,12 @@
--- `links_entry::paths::wire_proven_path` meets its contract.
-use Rattle.links_entry.specs.Here.{pathing}
+use Rattle.links_entry.specs.Asking.{and_then, and_else}
+use Rattle.links_entry.specs.Here.{path_same, pathing}
 use Rattle.links_entry.proofs.paths.wire_proven_path.Goals as goal
-
-pub overflow_mul-a : goal.overflow_mul-a
-overflow_mul-a c = search pathing
-
-pub overflow_add-a : goal.overflow_add-a
-overflow_add-a c = search pathing
-
-pub get_byte-requires : goal.get_byte-requires
-get_byte-requires c = search pathing
-
-pub returns-then-get_byte-eq-PROBING : goal.returns-then-get_byte-eq-PROBING
-returns-then-get_byte-eq-PROBING c = search pathing
 
 pub eq_wire_pair-requires : goal.eq_wire_pair-requires
 eq_wire_pair-requires c = search pathing
 
-pub returns : goal.returns
-returns c = search pathing
+pub returns-then-eq_wire_pair : goal.returns-then-eq_wire_pair
+returns-then-eq_wire_pair c = and_then (path_same c.requires.fit_paths c.requires.j_bound _ c.eq_wire_pair.ensures) c.if-eq_wire_pair.true c.counts_at.ensures
+
+pub returns-else-eq_wire_pair : goal.returns-else-eq_wire_pair
+returns-else-eq_wire_pair c = and_else _ (path_same c.requires.fit_paths c.requires.j_bound _ c.eq_wire_pair.ensures) c.if-eq_wire_pair.false

@@ -7,7 +7,7 @@ use Rattle.std.proofs.Common.{ap}
 use Rattle.links_entry.proofs.read.paths_full_at.Goals as goal
 
 pub full_at-requires : goal.full_at-requires
-full_at-requires c = record { fit_paths = paths_lent c.requires.fit_links c.requires.i_bound; fit_pair = c.requires.fit_pair }
+full_at-requires c = paths_lent c.requires.fit_links c.requires.i_bound
 
 pub returns : goal.returns
 returns c = c.full_at.ensures ∙ ap (full (view_pair c.args.p)) (paths_show c.requires.fit_links c.requires.i_bound)

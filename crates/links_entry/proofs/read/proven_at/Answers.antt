@@ -8,7 +8,7 @@ use Rattle.std.proofs.Common.{ap}
 use Rattle.links_entry.proofs.read.proven_at.Goals as goal
 
 pub proves-requires : goal.proves-requires
-proves-requires c = record { fit_paths = paths_lent c.requires.fit_links c.requires.i_bound; fit_pair = c.requires.fit_pair }
+proves-requires c = paths_lent c.requires.fit_links c.requires.i_bound
 
 pub returns : goal.returns
 returns c = c.proves.ensures ∙ ap (any (proven_at (view_pair c.args.p))) (paths_show c.requires.fit_links c.requires.i_bound)

@@ -1,14 +1,16 @@
 -- `links_entry::read::uses_at` meets its contract.
-use Rattle.links_entry.specs.Here.{uses_nothing, uses_path, uses_setup}
-use Rattle.std.proofs.Common.{ap}
-use mathlib.Core.Bool.{not}
+use Rattle.links_entry.specs.Asking.{and_else, and_then, or_first, or_last}
+use Rattle.rules.specs.Links.{uses}
 use Rattle.links_entry.proofs.read.uses_at.Goals as goal
 
-pub returns-then-used : goal.returns-then-used
-returns-then-used c = uses_path _ _ c.proven_at-used.ensures c.if-used.true
+pub returns-then-proven_at : goal.returns-then-proven_at
+unfolding uses
+returns-then-proven_at c = or_last _ c.proven_at.ensures c.if-proven_at.true
 
-pub returns-then-not-waits_at : goal.returns-then-not-waits_at
-returns-then-not-waits_at c = uses_nothing _ _ c.proven_at-used.ensures c.if-used.false c.waits_at.ensures (ap not c.if-not-waits_at.true)
+pub returns-then-setup_is : goal.returns-then-setup_is
+unfolding uses
+returns-then-setup_is c = or_first c.proven_at.ensures c.if-proven_at.false (and_then c.setup_is.ensures c.if-setup_is.true c.waits_at.ensures)
 
-pub returns : goal.returns
-returns c = uses_setup _ _ c.proven_at-used.ensures c.if-used.false c.waits_at.ensures (ap not c.if-not-waits_at.false) c.setup_is.ensures
+pub returns-else-setup_is : goal.returns-else-setup_is
+unfolding uses
+returns-else-setup_is c = or_first c.proven_at.ensures c.if-proven_at.false (and_else _ c.setup_is.ensures c.if-setup_is.false)

@@ -1,27 +1,12 @@
 -- `links_entry::read::waits_at` meets its contract.
-use Rattle.links_entry.specs.Here.{reading}
+use Rattle.links_entry.specs.Asking.{or_else, or_then}
+use Rattle.links_entry.specs.Here.{leg_is, paths_none}
+use borrow.Author.Tests.{eq-eqb, ne_eqb}
 use Rattle.links_entry.proofs.read.waits_at.Goals as goal
 
-pub overflow_mul-i : goal.overflow_mul-i
-overflow_mul-i c = search reading
+pub returns-then-path_count_at-eq0 : goal.returns-then-path_count_at-eq0
+returns-then-path_count_at-eq0 c = or_then _ (paths_none _ c.path_count_at.ensures.value) (eq-eqb _ 0 c.if-path_count_at-eq0.true)
 
-pub overflow_add-i : goal.overflow_add-i
-overflow_add-i c = search reading
-
-pub get_byte-requires : goal.get_byte-requires
-get_byte-requires c = search reading
-
-pub returns-then-get_byte-eq0 : goal.returns-then-get_byte-eq0
-returns-then-get_byte-eq0 c = search reading
-
-pub overflow_mul-i-2 : goal.overflow_mul-i-2
-overflow_mul-i-2 c = search reading
-
-pub overflow_add-i-2 : goal.overflow_add-i-2
-overflow_add-i-2 c = search reading
-
-pub get_byte-requires-2 : goal.get_byte-requires-2
-get_byte-requires-2 c = search reading
-
-pub returns : goal.returns
-returns c = search reading
+pub returns-else-path_count_at-eq0 : goal.returns-else-path_count_at-eq0
+returns-else-path_count_at-eq0 c =
+    or_else (paths_none _ c.path_count_at.ensures.value) (ne_eqb _ 0 c.if-path_count_at-eq0.false) (leg_is c.requires.fit_links c.requires.i_bound c.get_byte.ensures)

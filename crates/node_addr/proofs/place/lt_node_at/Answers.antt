@@ -1,17 +1,6 @@
--- `node_addr::place::lt_node_at` meets its contract.
-use mathlib.Core.Path.{◌≡◌}
-use lib.ListN.{length, take, drop}
-use native.Mathlib.Omega.{arith}
+use Rattle.std.proofs.Common.{rules, take, drop}
 use Rattle.node_addr.specs.Alike.{before_front}
-use borrow.Author.Rules.{rules}
 use Rattle.node_addr.proofs.place.lt_node_at.Goals as goal
 
-pub lt_bytes-requires : goal.lt_bytes-requires
-lt_bytes-requires c =
-    let x : length c.args.n.0 ≡ 16 = search rules in
-    record { at_in_bounds = omega arith; from_in_bounds = omega arith }
-
 pub returns : goal.returns
-returns c =
-    let v = c.args in
-    before_front 16 v.n.0 (take 16 (drop v.at v.s.now)) (search rules) c.lt_bytes.ensures
+returns c = before_front 16 c.args.n.0 (take 16 (drop c.args.at c.args.s.now)) (search rules) c.lt_bytes.ensures

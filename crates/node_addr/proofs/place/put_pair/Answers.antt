@@ -1,7 +1,7 @@
--- `node_addr::place::put_pair` meets its contract.
 use Rattle.lib_laws.specs.Splice.{wrote_then}
-use Rattle.node_addr.proofs.Cells.{pair_written}
+use Rattle.node_addr.specs.Place.{pair_cell}
 use Rattle.node_addr.proofs.place.put_pair.Goals as goal
 
 pub returns : goal.returns
-returns c = pair_written c.requires.fit_pair (wrote_then (wrote_then c.put_be-t.ensures c.put_byte-n.ensures) c.put_48.ensures)
+unfolding pair_cell
+returns c = wrote_then c.put_be-a.ensures c.put_cell.ensures

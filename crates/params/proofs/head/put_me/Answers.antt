@@ -4,5 +4,5 @@ use Rattle.params.proofs.head.put_me.Goals as goal
 
 pub returns : goal.returns
 returns c =
-    let w = me_written c.requires.size c.put_node.ensures in
+    let w = me_written c.requires.size c.put_fixed.ensures in
     record { fit_head = shows_keeps c.requires w; shows = w }

@@ -1,18 +1,7 @@
 -- `params::time::deadline` meets its contract.
-use Rattle.params.specs.Later.{timing}
+use Rattle.std.proofs.Common.{arith}
+use Rattle.rules.proofs.Time.{deadline_nanos}
 use Rattle.params.proofs.time.deadline.Goals as goal
 
-pub least-step-requires : goal.least-step-requires
-least-step-requires c = search timing
-
-pub overflow_sub-now : goal.overflow_sub-now
-overflow_sub-now c = search timing
-
-pub returns-then-now-step : goal.returns-then-now-step
-returns-then-now-step c = search timing
-
-pub overflow_add-result : goal.overflow_add-result
-overflow_add-result c = search timing
-
 pub returns : goal.returns
-returns c = search timing
+returns c = omega (arith, deadline_nanos c.args.now c.args.d)

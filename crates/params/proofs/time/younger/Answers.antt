@@ -2,8 +2,5 @@
 use Rattle.params.specs.Later.{timing}
 use Rattle.params.proofs.time.younger.Goals as goal
 
-pub age-requires : goal.age-requires
-age-requires c = search timing
-
 pub returns : goal.returns
 returns c = search timing

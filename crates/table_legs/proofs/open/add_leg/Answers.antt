@@ -8,7 +8,7 @@ pub slice_bounds-push_leg-end : goal.slice_bounds-push_leg-end
 slice_bounds-push_leg-end c = part_end c.requires.fit_table (lit≤ tt)
 
 pub push_leg-requires : goal.push_leg-requires
-push_leg-requires c = record { fit_legs = c.requires.fit_table.legs; fit_leg = c.requires.fit_leg; s_bound = leg_room c.requires.fit_table c.requires.t_len_bound }
+push_leg-requires c = record { fit_legs = c.requires.fit_table.legs; s_bound = leg_room c.requires.fit_table c.requires.t_len_bound }
 
 pub returns : goal.returns
 unfolding view_table

@@ -8,7 +8,7 @@ pub slice_bounds-open_link-end : goal.slice_bounds-open_link-end
 slice_bounds-open_link-end c = part_end c.requires.fit_table (lit≤ tt)
 
 pub open_link-requires : goal.open_link-requires
-open_link-requires c = record { fit_links = c.requires.fit_table.links; s_bound = link_room c.requires.fit_table c.requires.t_len_bound; fit_pair = c.requires.fit_pair }
+open_link-requires c = record { fit_links = c.requires.fit_table.links; s_bound = link_room c.requires.fit_table c.requires.t_len_bound }
 
 pub returns : goal.returns
 unfolding view_table

@@ -4,7 +4,7 @@ use Rattle.table_layout.proofs.Told.{next_fits, still_room, told_joined}
 use Rattle.table_legs.proofs.open.open_leg.Goals as goal
 
 pub add_leg-requires : goal.add_leg-requires
-add_leg-requires c = record { fit_table = c.add_link.ensures.fit; fit_leg = c.requires.fit_leg; t_len_bound = still_room c.add_link.ensures c.requires.t_len_bound_2 }
+add_leg-requires c = record { fit_table = c.add_link.ensures.fit; t_len_bound = still_room c.add_link.ensures c.requires.t_len_bound_2 }
 
 pub overflow_add-n : goal.overflow_add-n
 overflow_add-n c = next_fits c.next_no-n.ensures c.requires.t_bound

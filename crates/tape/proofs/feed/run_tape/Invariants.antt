@@ -2,8 +2,5 @@
 use Rattle.tape.specs.Feed.{Standing}
 use Rattle.tape.proofs.feed.run_tape.Given as goal
 
-abbrev pub invariant-loop-turns : goal.invariant-loop-turns
-invariant-loop-turns l = Standing l.phase l.initial.table l.initial.buf l.initial.out l.table l.buf l.out
-
-abbrev pub decreases-loop-turns : goal.decreases-loop-turns
-decreases-loop-turns l = l.turns
+abbrev pub invariant-loop : goal.invariant-loop
+invariant-loop l = Standing l.phase l.initial.table l.initial.buf l.initial.out l.table l.buf l.out

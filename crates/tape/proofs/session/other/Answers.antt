@@ -7,11 +7,14 @@ use Rattle.tape.proofs.session.other.Goals as goal
 pub slice_bounds-call-end : goal.slice_bounds-call-end
 slice_bounds-call-end c = omega (arith, c.requires.out_len_in_bounds)
 
-pub put_done-len-requires : goal.put_done-len-requires
-put_done-len-requires c = call_room c.args.out.now c.call-a.ensures c.requires.out_len_in_bounds c.call-a.auto.out
+pub put_done-requires : goal.put_done-requires
+put_done-requires c = call_room c.args.out.now c.in-Ok.ensures c.requires.out_len_in_bounds c.call.auto.out
 
-pub shape_of-out : goal.shape_of-out
-shape_of-out c = call_length c.args.out.now c.call-a.ensures c.requires.out_len_in_bounds c.call-a.auto.out c.put_done-len.auto.out
+pub put_done-requires-in-Err : goal.put_done-requires-in-Err
+put_done-requires-in-Err c = call_room c.args.out.now c.in-Err.ensures c.requires.out_len_in_bounds c.call.auto.out
 
-pub returns : goal.returns
-returns c = step_called c.args.out.now c.call-a.ensures c.requires.out_len_in_bounds c.call-a.auto.out (all_bytes c.args.rec.now c.type_inv.rec) c.put_done-len.ensures
+pub returns-in-Ok : goal.returns-in-Ok
+returns-in-Ok c = step_called c.args.out.now c.in-Ok.ensures c.requires.out_len_in_bounds c.call.auto.out (all_bytes c.args.rec.now c.type_inv.rec) c.put_done.ensures
+
+pub returns-in-Err : goal.returns-in-Err
+returns-in-Err c = step_called c.args.out.now c.in-Err.ensures c.requires.out_len_in_bounds c.call.auto.out (all_bytes c.args.rec.now c.type_inv.rec) (rw c.refusal_number.ensures at c.put_done-in-Err.ensures)

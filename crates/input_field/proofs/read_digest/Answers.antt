@@ -1,8 +1,0 @@
-use Rattle.input_field.specs.Parsed.{telling}
-use Rattle.input_field.proofs.read_digest.Goals as goal
-
-pub returns-then-rest-lt-DIGEST_LEN : goal.returns-then-rest-lt-DIGEST_LEN
-returns-then-rest-lt-DIGEST_LEN c = search telling
-
-pub returns : goal.returns
-returns c = search telling

@@ -1,7 +1,0 @@
--- `lib_bytes::word::word_4` meets its contract.
-use Rattle.lib_laws.specs.Little.{le_four}
-use borrow.Author.Rules.{rules}
-use Rattle.lib_bytes.proofs.word.word_4.Goals as goal
-
-pub returns : goal.returns
-returns c = search (rules, le_four)
