@@ -14,12 +14,12 @@ use Rattle.call_contract.specs.Did.{Space, space_head, space_tail, puts_cons}
 
 -- ---- the msg2 m, whole
 module _ {m u : Bytes} (s : u ≡ m) (h : length u ≤ 128) where
-  pub answer_room : (at : ℕ) {k : ℕ} → at + (15 + length m) ≤ k → (length u ≤ 128) × ((0 + length u ≤ length u) × (at + (15 + length u) ≤ k))
-  answer_room at r = (h, (omega arith, rw s r))
+  pub answer_room : (at : ℕ) {k : ℕ} → at + (15 + length m) ≤ k → (length u ≤ 128) × (at + (15 + length u) ≤ k)
+  answer_room at r = (h, rw s r)
 
-  pub answer_wrote : {o : Bytes} {at l : ℕ} {o₁ : Bytes} {r link : ℕ} (b : Bool) → l ≡ link → Wrote o at (15 + length u) (output_record (Output.Answer l b (take (length u) (drop 0 u)))) o₁ r
+  pub answer_wrote : {o : Bytes} {at l : ℕ} {o₁ : Bytes} {r link : ℕ} (b : Bool) → l ≡ link → Wrote o at (15 + length u) (output_record (Output.Answer l b u)) o₁ r
       → Wrote o at (15 + length m) (output_record (Output.Answer link b m)) o₁ r
-  answer_wrote b e w = rw (← s) (rw (e, take_all (length u) u (omega arith)) at w)
+  answer_wrote b e w = rw (← s) (rw e at w)
 
 -- ---- a Reject of a peer, and Free
 module _ {o : Bytes} {at : ℕ} {p : Bytes} {k : Source} {why : Denial} {lease : ℕ} (a : Space o at (Reject (Some (p, k)) why ∷ Free lease ∷ [])) where

@@ -24,7 +24,7 @@ pub fn put_msg2(t: &[u8], out: &mut [u8], at: usize, i: usize, stored: bool) -> 
         out.new result }
 {
     let m = leg_msg2(t, i);
-    put_answer(out, at, leg_link(t, i), stored, m, 0, m.len())
+    put_answer(out, at, leg_link(t, i), stored, m)
 }
 
 // A msg1 is rejected, and its lease freed.

@@ -1,9 +1,9 @@
 -- The codes that a record brings, kinds by what they are not, and steps that write nothing or change nothing.
-use Rattle.std.specs.Prelude.{◌≡◌, refl, Bool, true, false, List, [], ℕ, suc, ◌≤◌, ◌<◌, get_or, if◌then◌else◌}
+use Rattle.std.specs.Prelude.{◌≡◌, refl, Bool, true, false, List, [], ℕ, get_or, if◌then◌else◌}
 use Rattle.std.proofs.Common.{sym, ap, ◌∙◌, subst, arith}
 use Rattle.rules.specs.Base.{Bytes}
-use Rattle.rules.specs.Data.{Pair, Proven, Live, Probing, Table, Why, Output, Step}
-use Rattle.rules.specs.Field.{whys, why_code, states}
+use Rattle.rules.specs.Data.{Pair, Proven, Table, Why, Output, Step}
+use Rattle.rules.specs.Field.{whys, why_code}
 use Rattle.rules.specs.Links.{path}
 use Rattle.rules.specs.Settle.{with_links, writes, still, ok, refuse, unsent, crowded, add_path}
 use Rattle.output_record.specs.Write.{Puts, puts_none}
@@ -26,10 +26,6 @@ why_is w {k} e = ap (λ (k : ℕ). get_or whys k Why.Restart) (sym e) ∙ same w
     same Why.Dead = refl
     same Why.Admin = refl
     same Why.Closed = refl
-
--- the last of three
-pub state_last : (k : ℕ) → k < 3 → (k ≡ 0 → ⊥) → (k ≡ 1 → ⊥) → Probing ≡ get_or states k Live
-state_last k h a b = let e : k ≡ 2 = omega arith in rw e
 
 -- ---- the table alone
 pub ruled_told : {t o t' : Bytes} {s : Step} → s.outs ≡ [] → Told t' s.table → Ruled t o 0 t' o 0 0 (ok s)

@@ -13,16 +13,12 @@ use input_call::event::{path_fields, release_fields};
 use links::record::Proven;
 use refusal::Refusal;
 
-// The state of a path that a byte names.
+// The state of a path that a byte names: the reader has refused every other byte.
 fn state_of(code: u8) -> Proven
     requires { code < 3 }
     ensures { view_proven result ≡ get_or states code Live }
 {
-    match code {
-        0 => Proven::Live,
-        1 => Proven::Acked,
-        _ => Proven::Probing,
-    }
+    Proven::try_from(code).unwrap()
 }
 
 // 14: a link has a path in a state.

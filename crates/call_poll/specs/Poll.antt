@@ -105,10 +105,10 @@ module _ {xs : Bytes} {at clock : ℕ} {s : List Leg} {ys : Bytes} {e from : ℕ
       pub resend_room : e + (14 + length m) ≤ length ys
       resend_room = rw (← z) at (writing_room a.writing (Resend (get_or s i no_leg).link (get_or s i no_leg).msg1) (resends clock (drop (i + 1) s)) resend_next)
 
-      pub resend_turn : {l j : ℕ} {zs : Bytes} {r : ℕ} → l ≡ (get_or s i no_leg).link → Wrote ys e j (output_record (Resend l (take (length m) (drop 0 m)))) zs r → Resending xs at clock s zs r (i + 1)
+      pub resend_turn : {l j : ℕ} {zs : Bytes} {r : ℕ} → l ≡ (get_or s i no_leg).link → Wrote ys e j (output_record (Resend l m)) zs r → Resending xs at clock s zs r (i + 1)
       resend_turn {l} {j} {zs} {r} p w = record {
         within = omega (arith, resend_within);
-        writing = writing_one a.writing (Resend (get_or s i no_leg).link (get_or s i no_leg).msg1) (resends clock (drop (i + 1) s)) resend_next (rw (p, take_all (length m) m (omega arith), z) at w);
+        writing = writing_one a.writing (Resend (get_or s i no_leg).link (get_or s i no_leg).msg1) (resends clock (drop (i + 1) s)) resend_next (rw (p, z) at w);
       }
 
   pub resend_end : scan (resend_due clock) from (drop from s) ≡ None → Puts xs at (resends clock s) ys e

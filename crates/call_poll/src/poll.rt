@@ -20,7 +20,7 @@ pub fn resend_due(t: &[u8], out: &mut [u8], at: usize, clock: u64) -> usize
     let mut from = 0;
     while let Some(i) = find_resend(t, from, clock) {
         let m = leg_msg1(t, i);
-        e = put_resend(out, e, leg_link(t, i), m, 0, m.len());
+        e = put_resend(out, e, leg_link(t, i), m);
         from = i + 1;
     }
     e

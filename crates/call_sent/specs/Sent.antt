@@ -1,8 +1,8 @@
 -- What was sent: a resend counted, an answer marked, or a peer held by an answer.
-use Rattle.std.specs.Prelude.{◌≡◌, refl, Bool, true, false, List, [], ◌∷◌, ℕ, ◌+◌, ◌≤◌, ◌<◌, length, set, if◌then◌else◌, Option, None, Some, is_some}
+use Rattle.std.specs.Prelude.{◌≡◌, refl, Bool, true, false, List, [], ◌∷◌, ℕ, ◌+◌, ◌≤◌, ◌<◌, length, replicate, set, if◌then◌else◌, Option, None, Some, option_map, is_some, IsSome}
 use Rattle.std.proofs.Math.Path.{sym, ap}
 use Rattle.std.proofs.Common.{◌∙◌, subst}
-use Rattle.rules.specs.Base.{Bytes, alter}
+use Rattle.rules.specs.Base.{is, Bytes, alter}
 use Rattle.rules.specs.Time.{Params}
 use Rattle.rules.specs.Data.{Pair, LinkRec, Leg, Held, Memory, Table, Transition, Promote, Replace, Fresh, Installed, Install, Reset, Step}
 use Rattle.rules.specs.Links.{numbered}
@@ -13,6 +13,7 @@ use Rattle.rules.specs.Settle.{with_legs, with_gates, writes, still, link_at, le
 use Rattle.rules.proofs.Good.{own_link}
 use Rattle.lib_laws.specs.Splice.{Wrote}
 use Rattle.lib_laws.specs.Buffer.{kept_length}
+use Rattle.lib_laws.specs.Cell.{or_blank}
 use Rattle.lib_laws.specs.Scan.{scan}
 use Rattle.lib_laws.specs.Place.{find_at, find_nowhere, alter_at}
 use Rattle.node_addr.specs.declared.Fixed.{Fixed}
@@ -22,7 +23,7 @@ use Rattle.node_addr.specs.declared.Pair as pair
 use Rattle.node_addr.specs.View.{view_pair}
 use Rattle.links.specs.View.{no_link}
 use Rattle.legs.specs.View.{no_leg}
-use Rattle.legs.specs.At.{there, absent, no_answer, answer_of}
+use Rattle.legs.specs.At.{there, absent, named_peer, no_answer, answer_of}
 use Rattle.held.specs.declared.record.Held as held
 use Rattle.held.specs.View.{view_rec, no_held}
 use Rattle.gates.specs.Order.{Room}
@@ -32,6 +33,14 @@ use Rattle.table_layout.proofs.Told.{told_is, told_then}
 use Rattle.call_contract.specs.Did.{Space, Did, space_is, did_is, space_tail, puts_cons, puts_end, did_still}
 use Rattle.call_contract.specs.Sound.{Sound, leg_memory, held_room}
 use Rattle.call_sent.specs.Install.{install_fits, reset_fits, seated}
+
+-- ---- the peer that a leg names, where it names one
+pub names_one : {A B : Type 0} (f : A → B) (o : Option A) {p : Option B} → option_map f o ≡ p → is p ≡ true → IsSome o
+names_one f None e a = let z : false ≡ true = ap is e ∙ a in cc
+names_one f (Some x) e a = refl
+
+named_is : (g : Leg) {p : Bytes} → g.peer ≡ Some p → named_peer g ≡ p
+named_is g f = ap (λ (o : Option Bytes). or_blank (replicate 16 0) o) f
 
 -- ---- the holder that an answer g becomes on its link r
 abbrev shown : ℕ → ℕ → Bytes → ℕ → Bytes → Pair → Held
@@ -63,11 +72,11 @@ promoting p k d l c how now x =
     writes (Install i ∷ Reset p how ∷ []) (with_gates (store (promoted c now d (memory p x.gates)) x.gates) (seated k x))
 
 module _ (now : ℕ) (p : Bytes) (g : Leg) (r : LinkRec) (t : Bytes) {h : held.Held} {d : Bytes} {l : ℕ} {c : Params} {b : Bool} {how : Transition}
-    (u : Unheard h now p g r) (m : d ≡ (answer_of g).ephemeral) (q : l ≡ g.lease) (v : c ≡ (view_table t).params) (y : b ≡ (answer_of g).replaces) (z : how ≡ (if b then Replace else Promote)) where
+    (n : g.peer ≡ Some p) (u : Unheard h now p g r) (m : d ≡ (answer_of g).ephemeral) (q : l ≡ g.lease) (v : c ≡ (view_table t).params) (y : b ≡ (answer_of g).replaces) (z : how ≡ (if b then Replace else Promote)) where
   abbrev given : Installed
   given = record { peer = p; link = h.link.0; pair = view_pair h.current; build = Fresh; initiator = false; lease = l }
 
-  promote_is : promote now p (answer_of g) g r (view_table t) ≡ promoting p (view_rec h) d l c how now (view_table t)
+  promote_is : promote now (named_peer g) (answer_of g) g r (view_table t) ≡ promoting p (view_rec h) d l c how now (view_table t)
   unfolding promote
   promote_is =
       let x : Table = view_table t in
@@ -78,9 +87,10 @@ module _ (now : ℕ) (p : Bytes) (g : Leg) (r : LinkRec) (t : Bytes) {h : held.H
       ∙ ap (λ (d : Bytes). promoting p k d l c how now x) m
       ∙ ap (λ (i : ℕ). promoting p k f i c how now x) q
       ∙ ap (λ (s : Params). promoting p k f g.lease s how now x) v
-      ∙ ap (λ (w : Transition). promoting p k f g.lease x.params w now x) (z ∙ ap (λ (a : Bool). if a then Replace else Promote) y))
+      ∙ ap (λ (w : Transition). promoting p k f g.lease x.params w now x) (z ∙ ap (λ (a : Bool). if a then Replace else Promote) y)
+      ∙ ap (λ (q : Bytes). promote now q (answer_of g) g r x) (sym (named_is g n)))
 
-  module _ {o : Bytes} {at : ℕ} (s : Space o at (promote now p (answer_of g) g r (view_table t)).outs) where
+  module _ {o : Bytes} {at : ℕ} (s : Space o at (promote now (named_peer g) (answer_of g) g r (view_table t)).outs) where
     pub promote_install : at + (39 + h.current.addr.len) ≤ length o
     promote_install = install_fits given (space_is s promote_is) u.size (kept_length (kept_padded h.current.addr))
 
@@ -90,7 +100,7 @@ module _ (now : ℕ) (p : Bytes) (g : Leg) (r : LinkRec) (t : Bytes) {h : held.H
   pub promote_did : {o : Bytes} {at k : ℕ} {o₁ : Bytes} {a j : ℕ} {o₂ : Bytes} {e : ℕ} {t₁ t₂ : Bytes} → Wrote o at k (output_record (Install given)) o₁ a
       → Wrote o₁ a j (output_record (Reset p how)) o₂ e
       → Told t₁ (with_gates (store (promoted c now d (memory p (view_table t).gates)) (view_table t).gates) (view_table t))
-      → Told t₂ (seated (view_rec h) (view_table t₁)) → Did o at t₂ o₂ e (promote now p (answer_of g) g r (view_table t))
+      → Told t₂ (seated (view_rec h) (view_table t₁)) → Did o at t₂ o₂ e (promote now (named_peer g) (answer_of g) g r (view_table t))
   promote_did w z a i = did_is (record { table = told_then (seated (view_rec h)) a i; puts = puts_cons (Install given) w (puts_one (Reset p how) z) }) (sym promote_is)
 
 -- room for the peer's memory, and for the holder once that is written
@@ -126,7 +136,7 @@ module _ (now n : ℕ) (x : Table) where
         unfolding sent
         sent_lost q w = rw (e, there no_answer (answered g.kind) a, f, q, w)
 
-        sent_made : {r : LinkRec} → held_at p x ≡ None → link_at n x ≡ Some r → sent now n x ≡ promote now p (answer_of g) g r x
+        sent_made : {r : LinkRec} → held_at p x ≡ None → link_at n x ≡ Some r → sent now n x ≡ promote now (named_peer g) (answer_of g) g r x
         unfolding sent
         sent_made q w = rw (e, there no_answer (answered g.kind) a, f, q, w)
 
@@ -179,7 +189,7 @@ module _ (now n : ℕ) (t : Bytes) {o : Bytes} {at : ℕ} (s : Space o at (sent 
           pub sent_linkless : FitTable t → scan (numbered n) 0 (view_table t).links ≡ None → Did o at t o at (sent now n (view_table t))
           sent_linkless d y = nothing d (sent_lost now n (view_table t) g at_leg a f not_held (find_nowhere (numbered n) (view_table t).links y))
 
-          pub sent_promotes : (j : ℕ) → scan (numbered n) 0 (view_table t).links ≡ Some j → sent now n (view_table t) ≡ promote now p (answer_of g) g (nth_link (view_table t) j) (view_table t)
+          pub sent_promotes : (j : ℕ) → scan (numbered n) 0 (view_table t).links ≡ Some j → sent now n (view_table t) ≡ promote now (named_peer g) (answer_of g) g (nth_link (view_table t) j) (view_table t)
           sent_promotes j y = sent_made now n (view_table t) g at_leg a f not_held (find_at (numbered n) (view_table t).links j y no_link)
 
 -- the leg at its place is the one on its link

@@ -1,10 +1,11 @@
 // What becomes of a leg when what it sends went out, or did not.
 ghost use Rattle.std.specs.Prelude.{◌≡◌, true, ◌<◌, length, if◌then◌else◌};
+ghost use Rattle.rules.specs.Base.{is};
 ghost use Rattle.rules.specs.Data.{Replace, Promote};
 ghost use Rattle.rules.specs.Legs as leg;
 ghost use Rattle.rules.specs.Settle as rule;
 ghost use Rattle.lib_laws.specs.Scan.{scan};
-ghost use Rattle.legs.specs.At.{answer_of};
+ghost use Rattle.legs.specs.At.{named_peer, answer_of};
 ghost use Rattle.output_code.specs.Codes.{transition_of};
 ghost use Rattle.table_layout.specs.View.{view_table, FitTable, Told, nth_leg, nth_link};
 ghost use Rattle.call_contract.specs.Did.{Space, Did};
@@ -66,23 +67,16 @@ fn unheard(t: &[u8], i: usize, j: usize, peer: NodeAddr, clock: u64) -> Held
 }
 
 // The i-th leg's answer to the peer that it names was sent: the peer is held, unheard, on the j-th link.
-pub fn promote(
-    t: &mut [u8],
-    out: &mut [u8],
-    at: usize,
-    i: usize,
-    j: usize,
-    peer: NodeAddr,
-    clock: u64,
-) -> usize
+pub fn promote(t: &mut [u8], out: &mut [u8], at: usize, i: usize, j: usize, clock: u64) -> usize
     requires ready { Ready t.old }
     requires i_in_bounds { i < length (view_table t.old).legs }
     requires t_value { rule.leg_at (nth_leg (view_table t.old) i).link (view_table t.old) ≡ Some (nth_leg (view_table t.old) i) }
-    requires named { (nth_leg (view_table t.old) i).peer ≡ Some peer.0 }
+    requires i_value { is (nth_leg (view_table t.old) i).peer ≡ true }
     requires j_in_bounds { j < length (view_table t.old).links }
-    requires space { Space out.old at (rule.promote clock peer.0 (answer_of (nth_leg (view_table t.old) i)) (nth_leg (view_table t.old) i) (nth_link (view_table t.old) j) (view_table t.old)).outs }
-    ensures { Did out.old at t.new out.new result (rule.promote clock peer.0 (answer_of (nth_leg (view_table t.old) i)) (nth_leg (view_table t.old) i) (nth_link (view_table t.old) j) (view_table t.old)) }
+    requires space { Space out.old at (rule.promote clock (named_peer (nth_leg (view_table t.old) i)) (answer_of (nth_leg (view_table t.old) i)) (nth_leg (view_table t.old) i) (nth_link (view_table t.old) j) (view_table t.old)).outs }
+    ensures { Did out.old at t.new out.new result (rule.promote clock (named_peer (nth_leg (view_table t.old) i)) (answer_of (nth_leg (view_table t.old) i)) (nth_leg (view_table t.old) i) (nth_link (view_table t.old) j) (view_table t.old)) }
 {
+    let peer = leg_peer(t, i).unwrap();
     let h = unheard(t, i, j, peer, clock);
     let digest = leg_digest(t, i);
     let lease = leg_lease(t, i);
@@ -113,7 +107,7 @@ fn answer_sent(t: &mut [u8], out: &mut [u8], at: usize, i: usize, n: LinkNo, clo
     let Some(j) = find_link(t, n) else {
         return at;
     };
-    promote(t, out, at, i, j, peer, clock)
+    promote(t, out, at, i, j, clock)
 }
 
 // What link n's leg sends went out: a resend of a dial is counted, an answer makes its peer held.

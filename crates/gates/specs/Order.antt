@@ -6,19 +6,18 @@ use Rattle.std.proofs.Math.Bool.{true, false}
 use mathlib.Core.List.{List, [], ◌∷◌}
 use Rattle.std.proofs.lemmas.Bool.{eqb-false}
 use Rattle.std.proofs.Math.ListN.{set}
-use Rattle.rules.specs.Base.{option, is, empty, Bytes, All, without}
+use Rattle.rules.specs.Base.{is, empty, Bytes, All, without}
 use Rattle.rules.specs.Std.{before, Ascending}
 use Rattle.rules.specs.Std as std
 use Rattle.rules.specs.Data.{Replay, Silence, Memory}
 use Rattle.rules.specs.Bounds.{IfAny, SilenceFits, MemoryFits}
 use Rattle.rules.specs.Gates.{blank, remembers, memory_of, earlier_memory, memory, store, clear, promoted, ended}
 use Rattle.rules.specs.Time.{Params}
-use Rattle.lib_laws.specs.Shift.{erase, insert, all_at}
+use Rattle.lib_laws.specs.Shift.{erase, all_at}
 use Rattle.lib_laws.specs.Scan.{scan}
 use Rattle.lib_laws.specs.Beside.{same_true}
-use Rattle.lib_laws.specs.Place.{First, here, there, first_of, place_passes, place_within, find_at, find_nowhere, without_at, without_nowhere, insert_at, insert_last, insert_end}
+use Rattle.lib_laws.specs.Place.{First, here, there, first_of, place_passes, place_within, find_at, find_nowhere, without_at, without_nowhere}
 use Rattle.gates_types.specs.View.{Within}
-use Rattle.gates.specs.Walk.{after, Takes}
 
 -- the order of peers has one direction
 before_not : (a b : Bytes) → before a b ≡ true → before b a ≡ false
@@ -63,14 +62,6 @@ module _ (m : Memory) where
   pub stored_new : {p : Bytes} (g : List Memory) → m.peer ≡ p → scan (memory_of p) 0 g ≡ None → (if remembers m then std.insert earlier_memory m g else g) ≡ store m g
   unfolding store
   stored_new g z e = ap (λ (r : List Memory). if remembers m then std.insert earlier_memory m r else r) (sym (without_nowhere t g (rw (← z) at e)))
-
-  -- where the new one goes
-  pub inserted_here : (g : List Memory) {r n : ℕ} → Takes r (scan (after m.peer) 0 g) n → n ≡ length g → insert r m g ≡ std.insert earlier_memory m g
-  inserted_here g {r} {n} k e = go (scan (after m.peer) 0 g) refl k.is
-    where
-      go : (o : Option ℕ) → scan (after m.peer) 0 g ≡ o → r ≡ option o n (λ i. i) → insert r m g ≡ std.insert earlier_memory m g
-      go None q z = insert_end r m g (z ∙ e) ∙ sym (insert_last earlier_memory m g q)
-      go (Some i) q z = rw z (sym (insert_at earlier_memory m g i q))
 
 -- ---- the memory of a peer
 module _ (p : Bytes) (g : List Memory) where

@@ -12,13 +12,13 @@ use Rattle.lib_laws.specs.Splice.{splice, length_splice, Wrote}
 use Rattle.lib_laws.specs.Part.{get_d_past}
 use Rattle.lib_laws.specs.Chunk.{chunks_whole}
 use Rattle.lib_laws.specs.Store.{gapped, inserted_is}
+use Rattle.node_addr.specs.Search.{Takes, takes_insert}
 use Rattle.gates_types.specs.declared.Memory.{Memory}
 use Rattle.gates_types.specs.View.{view_memory, FitMemory}
 use Rattle.gates_entry.specs.View.{entry_of, view_gates, FitGates, gate_count}
 use Rattle.gates_entry.specs.Entry.{memory_bytes, fit_memory, memory_shows}
 use Rattle.gates_entry.specs.Layout.{at_memory_count, memory_cap, memory_width}
-use Rattle.gates.specs.Walk.{after, Takes, count_is}
-use Rattle.gates.specs.Order.{inserted_here}
+use Rattle.gates.specs.Walk.{after, count_is}
 
 module _ (m : Memory) (f : FitMemory m) (b : IfAny (Fits w64) m.stamp) {s : Bytes} (g : FitGates s) where
   pub put_over : {l : Bytes} {q : ℕ} (i : ℕ) → i < gate_count s → Wrote s (i * memory_width) memory_width (memory_bytes m) l q → FitGates l × (view_gates l ≡ set (view_gates s) i (view_memory m))
@@ -34,4 +34,4 @@ module _ (m : Memory) (f : FitMemory m) (b : IfAny (Fits w64) m.stamp) {s : Byte
       → FitGates u × (view_gates u ≡ std.insert earlier_memory (view_memory m) (view_gates s))
   put_new h t e a =
       let k = inserted_is entry_of g t.within h e a (fit_memory m f) (memory_shows m f b) in
-      (k.0, k.1 ∙ inserted_here (view_memory m) (view_gates s) t (sym (count_is g)))
+      (k.0, k.1 ∙ takes_insert earlier_memory (view_memory m) (view_gates s) t (sym (count_is g)))

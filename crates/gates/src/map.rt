@@ -5,9 +5,10 @@ ghost use Rattle.rules.specs.Std as std;
 ghost use Rattle.rules.specs.Gates as rule;
 ghost use Rattle.lib_laws.specs.Shift.{erase};
 ghost use Rattle.lib_laws.specs.Scan.{scan};
+ghost use Rattle.node_addr.specs.Search.{Takes};
 ghost use Rattle.gates_types.specs.View.{view_memory, FitMemory};
 ghost use Rattle.gates_entry.specs.View.{view_gates, FitGates, gate_count};
-ghost use Rattle.gates.specs.Walk.{after, Takes};
+ghost use Rattle.gates.specs.Walk.{after};
 ghost use Rattle.gates.specs.Order.{RoomFor};
 
 use gates_entry::layout::{MEMORY_CAP, MEMORY_COUNT, MEMORY_WIDTH};
@@ -17,7 +18,7 @@ use gates_memory::remembers;
 use gates_types::{Memory, blank_memory};
 use lib_region::{count, open_chunk, remove_chunk};
 use node_addr::NodeAddr;
-use node_addr::place::{eq_fixed_at, lt_node_at};
+use node_addr::search::{find_node, place_before};
 
 #[tactic(auto, using(crate::specs::Walk::count_is))]
 pub fn memory_count(s: &[u8]) -> usize
@@ -28,18 +29,12 @@ pub fn memory_count(s: &[u8]) -> usize
     count(s, MEMORY_COUNT)
 }
 
-// The place of a peer's memory. Entries are bytes of a lent region, not elements of a slice to search; and a closure that reads one would need the bound of its place once more.
+// The place of a peer's memory.
 pub fn find_memory(s: &[u8], peer: NodeAddr) -> Option<usize>
     requires { FitGates s.now }
     ensures { result ≡ scan (rule.memory_of peer.0) 0 (view_gates s.now) }
 {
-    let end = memory_count(s);
-    for i in 0..end {
-        if eq_fixed_at(s, i * MEMORY_WIDTH, peer) {
-            return Some(i);
-        }
-    }
-    None
+    find_node(s, MEMORY_WIDTH, memory_count(s), peer)
 }
 
 // The place that a peer without a memory takes: before the first that it comes before, else at the end.
@@ -47,13 +42,7 @@ fn place_of(s: &[u8], peer: NodeAddr) -> usize
     requires { FitGates s.now }
     ensures { Takes result (scan (after peer.0) 0 (view_gates s.now)) (gate_count s.now) }
 {
-    let end = memory_count(s);
-    for i in 0..end {
-        if lt_node_at(s, i * MEMORY_WIDTH, peer) {
-            return i;
-        }
-    }
-    end
+    place_before(s, MEMORY_WIDTH, memory_count(s), peer)
 }
 
 // What is remembered of a peer, blank where there is nothing.

@@ -7,13 +7,12 @@ use Rattle.std.specs.Int.{w64}
 use Rattle.rules.specs.Base.{is, Bytes}
 use Rattle.rules.specs.Bounds.{IfAny}
 use Rattle.rules.specs.Field.{digits}
-use Rattle.rules.specs.Data as rule
 use Rattle.lib_laws.specs.Splice.{length_digits, Wrote}
 use Rattle.lib_laws.specs.Round.{more_digits}
 use Rattle.lib_laws.specs.Cell.{num, flag_of, option_num, or_blank, flag_cell, flag_code, number_cells, optional_number, number_shows}
-use Rattle.lib_laws.specs.Part.{part_at}
-use Rattle.lib_laws.specs.Chunk.{chunks, chunk_size, joined}
-use Rattle.lib_laws.specs.Fields.{cuts, cuts_spelt, length_joined, sum, field_at}
+use Rattle.lib_laws.specs.Part.{part_of, part_at}
+use Rattle.lib_laws.specs.Chunk.{chunks, joined}
+use Rattle.lib_laws.specs.Fields.{cuts, cuts_spelt, length_joined, sum}
 use Rattle.lib_laws.specs.Store.{Store, entries, entry_shows, entry_fits}
 use Rattle.arrayvec.specs.ArrayVec.{ArrayVec}
 use Rattle.node_addr.specs.declared.Fixed.{Fixed}
@@ -23,7 +22,7 @@ use Rattle.gates_types.specs.declared.Memory.{Memory}
 use Rattle.gates_types.specs.View.{view_replay, view_replays, view_digest, view_digests, view_silence, view_memory, FitReplay, FitDigest, FitReplays, FitDigests, WideSilence, FitSilence, FitMemory}
 use Rattle.node_addr.specs.Layout.{digest_len}
 use Rattle.gates_entry.specs.Layout.{entry_ws, silence_ws, at_count, at_counted, at_has_silence, at_has_stamp, at_has_until, at_replays, at_seen, at_silence, at_silence_epoch, at_silence_last, at_stamp, at_until, digest_cap, digests_len, memory_width, replay_cap, replay_width, replays_len, silence_len}
-use Rattle.gates_entry.specs.Rows.{AnyBytes, cuts_part, row_bytes, row_size, row_store, row_shows}
+use Rattle.gates_entry.specs.Rows.{AnyBytes, cuts_part, part_here, row_bytes, row_size, row_store, row_shows, entries_show}
 use Rattle.gates_entry.specs.View.{replay_of, digest_of, silence_from, silence_of, SilenceCells, FitSilenceCell, fit_zero_silence, entry_from, entry_of, FitCells, FitEntry, FitGates, gate_count, no_memory, memory_at}
 
 -- ---- a replay and a digest at a place
@@ -36,30 +35,12 @@ replay_in c = record { digest = record { 0 = take 32 c }; seen = num (take 8 (dr
 abbrev pub digest_in : Bytes → Fixed 32
 digest_in c = record { 0 = c }
 
--- part i of a row of 8 parts of w bytes that stands at `at`
-in_row : (w : ℕ) (s : Bytes) (at i o n : ℕ) → i < 8 → o + n ≤ w → i * w + w ≤ 8 * w → at + (8 * w + 1) ≤ length s
-    → take n (drop o (get_or (chunks w 8 (take (8 * w + 1) (drop at s))) i [])) ≡ take n (drop (at + i * w + o) s)
-in_row w s at i o n p q m h =
-    let l : length (take (8 * w + 1) (drop at s)) ≡ 8 * w + 1 = length-take-le (8 * w + 1) (drop at s) (rw length-drop (omega arith)) in
-    let e : at + (i * w + o) ≡ at + i * w + o = omega arith in
-    field_at w 8 (take (8 * w + 1) (drop at s)) i [] o n p q (omega arith) ∙ part_at (8 * w + 1) s at (i * w + o) n (omega arith) ∙ rw e
+-- its 40 bytes are read as it
+pub replay_cut : (s : Bytes) (at : ℕ) → replay_at s at ≡ replay_in (take 40 (drop at s))
+replay_cut s at = sym (rw (part_of 0 32 40 (drop at s) (lit≤ tt), part_at 40 s at 32 8 (lit≤ tt)))
 
-pub replay_here : (s : Bytes) (at i : ℕ) → i < 8 → at + replays_len ≤ length s → replay_at s (at + i * replay_width) ≡ replay_in (get_or (chunks replay_width replay_cap (take replays_len (drop at s))) i [])
-replay_here s at i p h =
-    let z : at + i * replay_width + 0 ≡ at + i * replay_width = add-zero (at + i * replay_width) in
-    let x : take 32 (drop 0 (get_or (chunks replay_width replay_cap (take replays_len (drop at s))) i [])) ≡ take 32 (drop (at + i * replay_width) s) = in_row 40 s at i 0 32 p (lit≤ tt) (omega arith) h ∙ rw z in
-    let y : take 8 (drop 32 (get_or (chunks replay_width replay_cap (take replays_len (drop at s))) i [])) ≡ take 8 (drop (at + i * replay_width + at_seen) s) = in_row 40 s at i digest_len digest_cap p (lit≤ tt) (omega arith) h in
-    sym (rw (x, y))
-
-pub digest_here : (s : Bytes) (at i : ℕ) (d : Fixed 32) → i < 8 → at + digests_len ≤ length s → d.0 ≡ take 32 (drop (at + i * 32) s) → d ≡ digest_in (get_or (chunks digest_len digest_cap (take digests_len (drop at s))) i [])
-digest_here s at i d p h e =
-    let z : at + i * 32 + 0 ≡ at + i * 32 = add-zero (at + i * 32) in
-    let l : length (take digests_len (drop at s)) ≡ digests_len = length-take-le digests_len (drop at s) (rw length-drop (omega arith)) in
-    let x : take 32 (drop 0 (get_or (chunks digest_len digest_cap (take digests_len (drop at s))) i [])) ≡ take 32 (drop (at + i * 32) s) = in_row 32 s at i 0 32 p (lit≤ tt) (omega arith) h ∙ rw z in
-    ap digest_in (e ∙ sym x ∙ take_all 32 (get_or (chunks digest_len digest_cap (take digests_len (drop at s))) i []) (whole l))
-  where
-    whole : length (take digests_len (drop at s)) ≡ digests_len → length (get_or (chunks digest_len digest_cap (take digests_len (drop at s))) i []) ≤ 32
-    whole l = let q = chunk_size digest_len digest_cap (take digests_len (drop at s)) i [] p (omega arith) in omega arith
+pub replay_here : (s : Bytes) (at i : ℕ) → i < 8 → replay_at s (at + i * replay_width) ≡ replay_in (get_or (chunks replay_width replay_cap (take replays_len (drop at s))) i [])
+replay_here s at i p = replay_cut s (at + i * replay_width) ∙ ap replay_in (part_here replay_width replay_cap s at i p)
 
 -- a row's count, where it stands
 pub row_count : (n : ℕ) (s : Bytes) (at : ℕ) → get_or (take (n + 1) (drop at s)) n 0 ≡ get_or s (at + n) 0
@@ -246,7 +227,7 @@ pub record LoadedSilence (r : Silence) (a : ℕ) (s : Bytes) : Type 0 where
   pub until : r.until ≡ option_num (take 1 (drop (a + at_has_until) s)) (take 8 (drop (a + at_has_until + 1) s))
   pub wide : WideSilence r
   pub fits : FitDigests r.counted
-  pub counted : view_digests r.counted ≡ entries digest_of digest_len digest_cap (take digests_len (drop (a + at_counted) s))
+  pub counted : r.counted.items ≡ entries digest_in digest_len digest_cap (take digests_len (drop (a + at_counted) s))
 
 module _ (s : Bytes) (at : ℕ) where
   pub silence_cuts : cuts 0 0 silence_ws (take silence_len (drop at s)) ≡ cuts at 0 silence_ws s
@@ -264,7 +245,8 @@ module _ (s : Bytes) (at : ℕ) where
   silence_loaded {r} l =
       let z : at + 0 ≡ at = add-zero at in
       let u : at + at_has_until + 1 ≡ at + at_until = omega arith in
-      let v : view_silence r ≡ silence_from (cuts at 0 silence_ws s) = rw (l.epoch, l.count, l.last, l.until, l.counted, z, u) in
+      let d = entries_show view_digest digest_in digest_len digest_cap (take digests_len (drop (at + at_counted) s)) l.counted in
+      let v : view_silence r ≡ silence_from (cuts at 0 silence_ws s) = rw (l.epoch, l.count, l.last, l.until, d, z, u) in
       (record { wide = l.wide; counted = l.fits }, v ∙ ap silence_from (sym silence_cuts))
 
 -- ---- a memory read at a
@@ -275,7 +257,7 @@ pub record Loaded (r : Memory) (a : ℕ) (s : Bytes) : Type 0 where
   pub silence : option_map view_silence r.silence
       ≡ (if flag_of (take 1 (drop (a + at_has_silence) s)) then Some (silence_of (take silence_len (drop (a + at_has_silence + 1) s))) else None)
   pub fits : FitReplays r.replays
-  pub replays : view_replays r.replays ≡ entries replay_of replay_width replay_cap (take replays_len (drop (a + at_replays) s))
+  pub replays : r.replays.items ≡ entries replay_in replay_width replay_cap (take replays_len (drop (a + at_replays) s))
 
 module _ (s : Bytes) (i : ℕ) (f : FitGates s) (h : i < gate_count s) where
   entry_cuts : cuts 0 0 entry_ws (take memory_width (drop (i * memory_width) s)) ≡ cuts (i * memory_width) 0 entry_ws s
@@ -291,13 +273,11 @@ module _ (s : Bytes) (i : ℕ) (f : FitGates s) (h : i < gate_count s) where
   pub memory_here : entry_from (cuts (i * memory_width) 0 entry_ws s) ≡ memory_at s i
   memory_here = ap entry_from (sym entry_cuts) ∙ entry_shows entry_of f i no_memory h
 
-  pub peer_here : take 16 (drop (i * memory_width) s) ≡ (memory_at s i).peer
-  peer_here = let z : i * memory_width + 0 ≡ i * memory_width = add-zero (i * memory_width) in rw z at (ap (λ (m : rule.Memory). m.peer) memory_here)
-
   pub memory_loaded : {r : Memory} → Loaded r (i * memory_width) s → FitMemory r × (view_memory r ≡ memory_at s i)
   memory_loaded {r} l =
       let z : i * memory_width + 0 ≡ i * memory_width = add-zero (i * memory_width) in
       let t : i * memory_width + at_has_stamp + 1 ≡ i * memory_width + at_stamp = omega arith in
       let q : i * memory_width + at_has_silence + 1 ≡ i * memory_width + at_silence = omega arith in
-      let v : view_memory r ≡ entry_from (cuts (i * memory_width) 0 entry_ws s) = rw (l.peer, l.stamp, l.silence, l.replays, z, t, q) in
+      let d = entries_show view_replay replay_in replay_width replay_cap (take replays_len (drop (i * memory_width + at_replays) s)) l.replays in
+      let v : view_memory r ≡ entry_from (cuts (i * memory_width) 0 entry_ws s) = rw (l.peer, l.stamp, l.silence, d, z, t, q) in
       (record { peer = rw l.peer (length-take-le 16 (drop (i * memory_width) s) (rw length-drop (omega arith))); replays = l.fits; silence = l.fit }, v ∙ memory_here)

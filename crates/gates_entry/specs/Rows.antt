@@ -1,12 +1,12 @@
 -- A row of parts of one width, and then a byte that says how many are in use: read part by part, written part by part.
 use Rattle.std.specs.Prelude.{◌≡◌, refl, List, [], ◌∷◌, ◌++◌, map, ℕ, zero, suc, ◌+◌, ◌-◌, ◌*◌, ◌≤◌, ◌<◌, length, take, drop, get_or, replicate}
-use Rattle.std.proofs.Common.{sym, ap, ◌∙◌, append_assoc, append-nil, zero-add, zero-mul, suc-mul, add-mul, add_comm, add-one, arith, take_at, drop_at, take-suc, take_all, length-take-le, length-append}
+use Rattle.std.proofs.Common.{sym, ap, ◌∙◌, append_assoc, append-nil, zero-add, zero-mul, suc-mul, add-mul, mul-le-mul_right, add_comm, add-one, arith, take_at, drop_at, take-suc, take_all, length-take-le, length-append}
 use Rattle.std.proofs.lemmas.List.{length-map, length-replicate, map-append}
 use Rattle.rules.specs.Base.{Bytes, All}
 use Rattle.lib_laws.specs.Shift.{all_append, all_replicate}
 use Rattle.lib_laws.specs.Splice.{splice_none, Wrote, wrote_then}
 use Rattle.lib_laws.specs.Part.{part_at}
-use Rattle.lib_laws.specs.Chunk.{chunks, joined, length_chunks}
+use Rattle.lib_laws.specs.Chunk.{chunks, chunk_at, joined, length_chunks}
 use Rattle.lib_laws.specs.Fields.{cuts, sum}
 use Rattle.lib_laws.specs.Store.{Store, entries}
 use Rattle.arrayvec.specs.ArrayVec.{ArrayVec}
@@ -26,6 +26,19 @@ cuts_part n s at o [] h = refl
 cuts_part n s at o (w ∷ ws) h =
     let z : 0 + o ≡ o = omega arith in
     rw (z, part_at n s at o w (omega arith), cuts_part n s at (o + w) ws (omega arith))
+
+-- ---- room for a part, and what is left behind n of them
+row_room : (w i cap : ℕ) → i < cap → i * w + w ≤ cap * w
+row_room w i cap p = rw suc-mul at (mul-le-mul_right w p)
+
+pub row_rest : (w n cap : ℕ) → n ≤ cap → n * w + (cap - n) * w ≡ cap * w
+row_rest w n cap h = sym (add-mul n (cap - n) w) ∙ ap (λ (c : ℕ). c * w) (omega arith)
+
+-- part i of a row, where it stands
+pub part_here : (w cap : ℕ) (s : Bytes) (at i : ℕ) → i < cap → take w (drop (at + i * w) s) ≡ get_or (chunks w cap (take (cap * w + 1) (drop at s))) i []
+part_here w cap s at i p =
+    let m = row_room w i cap p in
+    sym (chunk_at w cap (take (cap * w + 1) (drop at s)) i [] p ∙ part_at (cap * w + 1) s at (i * w) w (omega arith))
 
 -- ---- what was written is read
 joined_length : (w : ℕ) (bs : List Bytes) → All (Wide w) bs → length (joined bs) ≡ length bs * w
@@ -149,7 +162,7 @@ module _ {A : Type 0} (enc : A → Bytes) (w : ℕ) (xs : List A) where
     pub row_end : {m l' : Bytes} {b q n : ℕ} (cap : ℕ) → length xs ≤ cap → i ≡ length xs → n ≡ length xs
         → Wrote l a ((cap - n) * w) (replicate ((cap - n) * w) 0) m b → Wrote m b 1 (n ∷ []) l' q → Wrote s at (cap * w + 1) (row_bytes enc w cap xs) l' q
     row_end cap h e k t u =
-        let z : length xs * w + (cap - length xs) * w ≡ cap * w = sym (add-mul (length xs) (cap - length xs) w) ∙ ap (λ (c : ℕ). c * w) (omega arith) in
+        let z = row_rest w (length xs) cap h in
         let y = rw (e, take_all (length xs) xs (omega arith)) at r.wrote in
         rw (← z) (wrote_then (wrote_then y (rw k at t)) (rw k at u))
 
@@ -171,11 +184,13 @@ module _ {A : Type 0} {P : A → Type 0} {dec : Bytes → A} {w cap : ℕ} {c : 
     each = rw y (all_append P v.items (x ∷ []) a.each (px, tt));
   }
 
-  pub fetching_end : {B : Type 0} (f : A → B) {n : ℕ} → cap ≤ 8 → Store AnyBytes w cap c → n ≡ get_or c (cap * w) 0 → i ≡ n → Few P v × (map f v.items ≡ entries (λ d. f (dec d)) w cap c)
-  fetching_end f {n} few r e h =
+  pub fetching_end : {n : ℕ} → cap ≤ 8 → Store AnyBytes w cap c → n ≡ get_or c (cap * w) 0 → i ≡ n → Few P v × (v.items ≡ entries dec w cap c)
+  fetching_end {n} few r e h =
       let s = r.kept.small in
       let l = fetching_length (omega arith) in
-      let q : i ≡ get_or c (cap * w) 0 = h ∙ e in (
-        record { small = omega arith; each = a.each },
-        ap (map f) a.items ∙ map_map dec f (take i (chunks w cap c)) ∙ ap (λ (k : ℕ). map (λ d. f (dec d)) (take k (chunks w cap c))) q,
-      )
+      let q : i ≡ get_or c (cap * w) 0 = h ∙ e in
+      (record { small = omega arith; each = a.each }, a.items ∙ ap (λ (k : ℕ). map dec (take k (chunks w cap c))) q)
+
+-- what the items of a row show
+pub entries_show : {A B : Type 0} (f : A → B) (dec : Bytes → A) (w cap : ℕ) (c : Bytes) {xs : List A} → xs ≡ entries dec w cap c → map f xs ≡ entries (λ d. f (dec d)) w cap c
+entries_show f dec w cap c e = ap (map f) e ∙ map_map dec f (take (get_or c (cap * w) 0) (chunks w cap c))

@@ -5,3 +5,4 @@ pub mod at;
 pub mod layout;
 pub mod load;
 pub mod put;
+mod row;

@@ -52,7 +52,7 @@ module _ {o : Option Refusal} {c : Params} {now : ℕ} {e s : Bytes} {at n j k :
   here h =
       let l = length_chunks replay_width replay_cap (take replays_len (drop at s)) in
       shows_cons replay_of n (chunks replay_width replay_cap (take replays_len (drop at s))) j [] (omega arith) h
-      ∙ ap (λ (x : Replay). x ∷ drop (suc j) (map replay_of (take n (chunks replay_width replay_cap (take replays_len (drop at s)))))) (sym (ap view_replay (replay_here s at j (omega arith) (omega arith))))
+      ∙ ap (λ (x : Replay). x ∷ drop (suc j) (map replay_of (take n (chunks replay_width replay_cap (take replays_len (drop at s)))))) (sym (ap view_replay (replay_here s at j (omega arith))))
 
   module _ (h : j < n) where
     pub passing_hit : younger c.interval now (num (take 8 (drop (at + j * replay_width + at_seen) s))) ≡ true → same e (take 32 (drop (at + j * replay_width) s)) ≡ true → Some Replayed ≡ o

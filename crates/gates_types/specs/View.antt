@@ -92,7 +92,7 @@ pub record FitMemory (m : Memory) : Type 0 where
   pub replays : FitReplays m.replays
   pub silence : IfAny FitSilence m.silence
 
--- settings within range
+-- settings within range; a clause, since a record of new may bring others, which `in_range` refuses
 pub record FitParams (c : Params) : Type 0 where
   pub replays : c.replays ≤ 8
   pub some_counted : 1 ≤ c.counted

@@ -77,7 +77,7 @@ pub struct Liveness {
     pub last: Option<u64>,
 }
 
-// Nothing remembered of a peer.
+// Nothing remembered of a peer: no Default, since it has the peer.
 pub fn blank_memory(peer: NodeAddr) -> Memory
     ensures { result ≡ blank_memory peer }
 {

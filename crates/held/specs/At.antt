@@ -1,10 +1,9 @@
 -- What single cells of the i-th held peer show, where they stand.
 use Rattle.std.specs.Prelude.{◌≡◌, Bool, ℕ, ◌+◌, ◌*◌, ◌<◌, take, drop}
 use Rattle.std.proofs.Common.{sym, ap, ◌∙◌, add-zero, arith}
-use Rattle.rules.specs.Base.{Bytes, same}
+use Rattle.rules.specs.Base.{Bytes}
 use Rattle.rules.specs.Std.{before}
 use Rattle.rules.specs.Data.{Pair, same_pair, Held}
-use Rattle.rules.specs.Settle.{named}
 use Rattle.lib_laws.specs.Cell.{num, flag_of, option_num, option_bytes}
 use Rattle.node_addr.specs.Place.{pair_of, PairCell}
 use Rattle.node_addr.specs.Layout.{pair_width}
@@ -19,12 +18,6 @@ precedes p h = before p h.peer
 module _ {s : Bytes} {i : ℕ} (f : FitHeld s) (h : i < held_count s) where
   pub peer_here : take 16 (drop (i * held_width) s) ≡ (nth_held s i).peer
   peer_here = ap (λ (a : ℕ). take 16 (drop a s)) (sym (add-zero (i * held_width))) ∙ ap (λ (k : Held). k.peer) (held_here s i f h)
-
-  pub named_here : {r : Bool} (p : Bytes) → r ≡ same p (take 16 (drop (i * held_width) s)) → r ≡ named p (nth_held s i)
-  named_here p e = e ∙ ap (same p) peer_here
-
-  pub precedes_here : {r : Bool} (p : Bytes) → r ≡ before p (take 16 (drop (i * held_width) s)) → r ≡ precedes p (nth_held s i)
-  precedes_here p e = e ∙ ap (before p) peer_here
 
   pub link_here : num (take 8 (drop (i * held_width + at_held_link) s)) ≡ (nth_held s i).link
   link_here = ap (λ (k : Held). k.link) (held_here s i f h)

@@ -5,15 +5,16 @@ ghost use Rattle.rules.specs.Std.{insert};
 ghost use Rattle.rules.specs.Settle.{named, earlier_held};
 ghost use Rattle.lib_laws.specs.Shift.{erase};
 ghost use Rattle.lib_laws.specs.Scan.{scan};
+ghost use Rattle.node_addr.specs.Search.{Takes};
 ghost use Rattle.held.specs.View.{FitHeld, view_rec, view_held, held_count};
-ghost use Rattle.held.specs.Walk.{Slot};
+ghost use Rattle.held.specs.At.{precedes};
 
 use crate::entry::put_held;
 use crate::layout::{HELD_CAP, HELD_COUNT, HELD_WIDTH};
 use crate::record::Held;
 use lib_region::{count, open_chunk, remove_chunk};
 use node_addr::NodeAddr;
-use node_addr::place::{eq_fixed_at, lt_node_at};
+use node_addr::search::{find_node, place_before};
 
 pub fn held_count(s: &[u8]) -> usize
     requires { FitHeld s.now }
@@ -23,32 +24,20 @@ pub fn held_count(s: &[u8]) -> usize
     count(s, HELD_COUNT)
 }
 
-// The place of a peer. Entries are bytes of a lent region, not elements of a slice to search; and a closure that reads one would need the bound of its place once more.
+// The place of a peer.
 pub fn find_held(s: &[u8], peer: NodeAddr) -> Option<usize>
     requires { FitHeld s.now }
     ensures { result ≡ scan (named peer.0) 0 (view_held s.now) }
 {
-    let n = held_count(s);
-    for i in 0..n {
-        if eq_fixed_at(s, i * HELD_WIDTH, peer) {
-            return Some(i);
-        }
-    }
-    None
+    find_node(s, HELD_WIDTH, held_count(s), peer)
 }
 
 // Where a peer belongs: before the first whose address is greater, else at the end.
 fn place_for(s: &[u8], peer: NodeAddr) -> usize
     requires { FitHeld s.now }
-    ensures { Slot peer.0 result s.now }
+    ensures { Takes result (scan (precedes peer.0) 0 (view_held s.now)) (held_count s.now) }
 {
-    let n = held_count(s);
-    for i in 0..n {
-        if lt_node_at(s, i * HELD_WIDTH, peer) {
-            return i;
-        }
-    }
-    n
+    place_before(s, HELD_WIDTH, held_count(s), peer)
 }
 
 // A peer that is not held yet.

@@ -17,6 +17,7 @@ hello_of s h = record {
   lease = h.lease;
 }
 
+-- a clause, since it ties the places in a hello to the record that they lie in
 pub record FitHello (s : Bytes) (h : hello.Hello) : Type 0 where
   pub pair : PairIn s h.from
   pub message : FitSpan s h.message

@@ -125,6 +125,7 @@ impl<'a> Cursor<'a> {
     pub fn skip_pair(&mut self) -> Option<usize>
         ensures took { Took pair self.old (option_map (λ i. pair_here (drop i self.old.rec.now)) result) self.new }
         ensures pair_in { IfSome result (λ i. PairIn self.old.rec.now i) }
+        ensures stands { IfSome result (λ i. i ≡ self.old.at) }
     {
         let at = self.skip(PAIR_ADDR)?;
         let n = get_byte(&self.rec[at..], PAIR_LEN) as usize;

@@ -68,7 +68,8 @@ pub fn next_at(s: &[u8], i: usize) -> Option<u64>
     get_option(s, i * LEG_WIDTH + HAS_NEXT)
 }
 
-// The answered msg1's epoch; 0 for a dial.
+// What only an answer has is blank of a dial, as in the rules' `answer_of`: who asks knows that the leg is an answer, so there is no absence to tell.
+// The answered msg1's epoch.
 pub fn epoch_at(s: &[u8], i: usize) -> u64
     requires fit_legs { FitLegs s.now }
     requires i_bound { i < leg_count s.now }

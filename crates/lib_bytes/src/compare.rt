@@ -1,4 +1,4 @@
-// Runs of bytes compared where they stand: whether they are the same, and their order.
+// Runs of bytes compared where they stand, in lent memory, where no value is that could derive it: whether they are the same, and their order.
 ghost use Rattle.std.specs.Prelude.{◌≡◌, ◌+◌, ◌≤◌, length, take, drop};
 ghost use Rattle.rules.specs.Base.{same};
 ghost use Rattle.rules.specs.Std.{before};

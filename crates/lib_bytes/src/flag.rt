@@ -6,7 +6,7 @@ ghost use Rattle.lib_laws.specs.Cell.{flag_of, option_num, number_cells};
 
 use crate::layout::U64;
 use crate::read::get_8;
-use crate::write::put_be;
+use crate::write::{put_be, put_byte};
 
 pub fn get_flag(s: &[u8], at: usize) -> bool
     requires { at < length s.now }
@@ -15,18 +15,11 @@ pub fn get_flag(s: &[u8], at: usize) -> bool
     s[at] == 1
 }
 
-fn bit(b: bool) -> u8
-    ensures { result ≡ one b }
-{
-    if b { 1 } else { 0 }
-}
-
 pub fn put_flag(s: &mut [u8], at: usize, b: bool) -> usize
     requires { at < length s.old }
     ensures { Wrote s.old at 1 (one b ∷ []) s.new result }
 {
-    s[at] = bit(b);
-    at + 1
+    put_byte(s, at, u8::from(b))
 }
 
 // A number of eight bytes behind a flag, if there is one.

@@ -28,7 +28,7 @@ pub fn get_8(s: &[u8], at: usize) -> u64
     u64::from_be_bytes(take(s, at))
 }
 
-// The number of n bytes, byte by byte.
+// The number of n bytes, byte by byte: of any width, those that are one load of the machine too.
 fn get_few(s: &[u8], at: usize, n: usize) -> u64
     requires n_bound { n ≤ 8 }
     requires n_in_bounds { at + n ≤ length s.now }

@@ -12,7 +12,7 @@ pub fn put_byte(s: &mut [u8], at: usize, v: u8) -> usize
     at + 1
 }
 
-// The last n bytes of a number, the most significant first, byte by byte.
+// The last n bytes of a number, the most significant first, byte by byte: of any width, those that are one store of the machine too.
 fn put_few(s: &mut [u8], at: usize, v: u64, n: usize) -> usize
     requires { at + n ≤ length s.old }
     ensures { Wrote s.old at n (digits n v) s.new result }

@@ -1,6 +1,7 @@
 -- Numbers and bytes as the standard library converts them, the most significant byte first, and slices as it copies and fills them: in the words of the rules and of `Wrote`.
 use Rattle.std.specs.Prelude.{ℕ, ◌+◌, ◌-◌, ◌/◌, ◌%◌, ◌≤◌, ◌≡◌, refl, List, [], ◌∷◌, length, take, drop}
-use Rattle.std.proofs.Common.{arith, drop-drop, length-take-le, length-drop}
+use Rattle.std.proofs.Common.{◌∙◌, append_assoc, arith, drop-drop, length-take-le, length-drop}
+use lib.Seq.{paste}
 use Rattle.std.specs.Int.{w16, w32, w64, from_be_bytes, to_be_bytes}
 use borrow.Rule.Slice.PartMut.{put_mid}
 use lib.Pointwise.{pointwise}
@@ -69,6 +70,14 @@ wrote_mid xs at n bs ys h l e =
 
 pub wrote_copy : (xs : List ℕ) (at n : ℕ) (t : List ℕ) (from : ℕ) (ys : List ℕ) → at + n ≤ length xs → from + n ≤ length t → ys ≡ take n (drop from t) → Wrote xs at n (take n (drop from t)) (put_mid at (at + n - at) xs ys) (at + n)
 wrote_copy xs at n t from ys h k e = wrote_mid xs at n (take n (drop from t)) ys h (length-take-le n (drop from t) (rw length-drop (omega arith))) e
+
+-- n bytes from `from` on put at `to` of the same slice, whether or not the two runs overlap
+pub copied_within : (xs : List ℕ) (from to n : ℕ) (ys : List ℕ) → from + n ≤ length xs → ys ≡ paste xs to (drop from xs) (from + n - from) → ys ≡ splice xs to (take n (drop from xs))
+unfolding splice
+copied_within xs from to n ys h e =
+    let k : from + n - from ≡ n = omega arith in
+    let l : length (take n (drop from xs)) ≡ n = length-take-le n (drop from xs) (rw length-drop (omega arith)) in
+    (rw k at e) ∙ rw l (append_assoc (take to xs) (take n (drop from xs)) (drop (to + n) xs))
 
 -- ---- arrays compared by the library
 pub same_pointwise : (xs ys : List ℕ) → pointwise eqb xs ys ≡ same xs ys

@@ -127,7 +127,4 @@ pasting_all {n = n} {src} a p e = rw (take_all n src (omega arith)) at (pasting_
 pub wrote_byte : (xs : List ℕ) (at v : ℕ) → at < length xs → Wrote xs at 1 (v ∷ []) (set xs at v) (at + 1)
 wrote_byte xs at v h = record { end = refl; size = refl; room = omega arith; is = set_splice xs at v h }
 
-pub wrote_same : (xs : List ℕ) (at v w : ℕ) → v ≡ w → at < length xs → Wrote xs at 1 (w ∷ []) (set xs at v) (at + 1)
-wrote_same xs at v w e h = rw e (wrote_byte xs at w h)
-
 pub ruleset writing = (rules, putting_start, putting_turn, putting_end, wrote_byte)

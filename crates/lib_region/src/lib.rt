@@ -7,15 +7,23 @@ ghost use Rattle.lib_laws.specs.Store.{Closes, Opens, erased, gapped};
 
 use lib_bytes::write::clear;
 
+// n bytes from `from` to `to`: the two runs may overlap.
+#[tactic(auto, using(lib_laws::specs::Numbers::copied_within))]
+fn move_run(s: &mut [u8], from: usize, to: usize, n: usize)
+    requires from_in_bounds { from + n ≤ length s.old }
+    requires to_in_bounds { to + n ≤ length s.old }
+    ensures { s.new ≡ splice s.old to (take n (drop from s.old)) }
+{
+    s.copy_within(from..from + n, to);
+}
+
 // n bytes from `from` down to `to`.
 pub fn move_down(s: &mut [u8], from: usize, to: usize, n: usize)
     requires to_le_from { to ≤ from }
     requires n_in_bounds { from + n ≤ length s.old }
     ensures { s.new ≡ splice s.old to (take n (drop from s.old)) }
 {
-    for i in 0..n {
-        s[to + i] = s[from + i];
-    }
+    move_run(s, from, to, n);
 }
 
 // n bytes from `from` up to `to`.
@@ -24,9 +32,7 @@ pub fn move_up(s: &mut [u8], from: usize, to: usize, n: usize)
     requires n_in_bounds { to + n ≤ length s.old }
     ensures { s.new ≡ splice s.old to (take n (drop from s.old)) }
 {
-    for i in (0..n).rev() {
-        s[to + i] = s[from + i];
-    }
+    move_run(s, from, to, n);
 }
 
 // How many entries there are; `end` is the place after the last of the cap entries.

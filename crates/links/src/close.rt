@@ -13,6 +13,7 @@ use links_entry::read::{find_link, get_link, in_use};
 use links_entry::record::LinkRec;
 use node_addr::{LinkNo, Pair};
 
+// By a name, for what it shows.
 pub fn no_closes() -> Closes
     ensures { view_closes result ≡ [] }
 {

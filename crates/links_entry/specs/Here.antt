@@ -5,7 +5,8 @@ use Rattle.std.proofs.Common.{◌∙◌, subst, add-zero, arith, rules, eq-eqb, 
 use Rattle.std.proofs.Math.Bool.{not}
 use mathlib.Core.List.{List, [], ◌∷◌}
 use Rattle.rules.specs.Base.{Bytes, empty}
-use Rattle.rules.specs.Data.{Pair, same_pair, Inbound, Outbound, ALeg, APeer, Proven, Live, Acked, Probing, PathRec, LinkRec}
+use Rattle.rules.specs.Data.{Pair, same_pair, Dir, Inbound, Outbound, ALeg, APeer, Proven, Live, Acked, Probing, PathRec, LinkRec}
+use Rattle.rules.specs.Field.{state_code}
 use Rattle.rules.specs.Links.{counts, is_leg, path_at}
 use Rattle.lib_laws.specs.Shift.{erase, shown, fit_at}
 use Rattle.lib_laws.specs.Cell.{num, byte_of, flag_of}
@@ -15,7 +16,7 @@ use Rattle.lib_laws.specs.Store.{entries_count}
 use Rattle.node_addr.specs.Place.{pair_of, PairCell}
 use Rattle.node_addr.specs.Layout.{pair_width}
 use Rattle.links_entry.specs.Layout.{link_ws, at_dir, at_holder, at_holder_peer, at_link_path_count, at_path_count, at_path_state, at_paths, at_released, at_setup, link_cap, link_width, path_cap, path_width, paths_len}
-use Rattle.links_entry.specs.View.{state_of, path_of, FitPath, view_paths, FitPaths, path_count, dir_of, holder_of, link_from, link_of, FitFields, view_links, FitLinks, link_count, no_link, no_path, outward}
+use Rattle.links_entry.specs.View.{state_of, path_of, FitPath, view_paths, FitPaths, path_count, dir_code, dir_of, holder_of, link_from, link_of, FitFields, view_links, FitLinks, link_count, no_link, no_path, outward}
 use Rattle.links_entry.specs.Asking.{Sifted, sifted_drop, sifted_pass}
 
 module _ {s : Bytes} {i : ℕ} (f : FitLinks s) (h : i < link_count s) where
@@ -91,6 +92,10 @@ byte_here s at = sym (get_or-take 1 (drop at s) 0 0 (lit< tt) ∙ get_or-drop at
 pub byte_in : (s : Bytes) (a k n : ℕ) → n < k → get_or (take k (drop a s)) n 0 ≡ get_or s (a + n) 0
 byte_in s a k n h = get_or-take k (drop a s) n 0 h ∙ get_or-drop a s n 0
 
+dir_shows : (d : Dir) → dir_of (dir_code d) ≡ d
+dir_shows Inbound = refl
+dir_shows Outbound = refl
+
 outward_of : (b : ℕ) → outward (dir_of b) ≡ eqb b 1
 outward_of b = go (eqb b 1)
   where
@@ -149,6 +154,12 @@ module _ {s : Bytes} {i : ℕ} (f : FitLinks s) (h : i < link_count s) where
   pub outbound_is : {b : ℕ} → b ≡ get_or s (i * link_width + at_dir) 0 → eqb b 1 ≡ outward (get_or (view_links s) i no_link).dir
   outbound_is {b} e = rw (e, byte_here s (i * link_width + at_dir)) (sym (outward_of (byte_of (take 1 (drop (i * link_width + at_dir) s)))) ∙ ap outward (dir_here f h))
 
+  pub dir_small : {b : ℕ} → b ≡ get_or s (i * link_width + at_dir) 0 → b < 2
+  dir_small e = rw (e, byte_here s (i * link_width + at_dir)) (fit_here f h).dir.low
+
+  pub dir_named : {b : ℕ} (x : Dir) → dir_code x ≡ b → b ≡ get_or s (i * link_width + at_dir) 0 → x ≡ (get_or (view_links s) i no_link).dir
+  dir_named x q e = sym (dir_shows x) ∙ ap dir_of (q ∙ e ∙ byte_here s (i * link_width + at_dir)) ∙ dir_here f h
+
   pub released_is : {b : ℕ} → b ≡ get_or s (i * link_width + at_released) 0 → eqb b 1 ≡ (get_or (view_links s) i no_link).released
   released_is {b} e = rw (e, byte_here s (i * link_width + at_released)) (released_here f h)
 
@@ -202,9 +213,14 @@ module _ {s : Bytes} {i : ℕ} (f : FitLinks s) (h : i < link_count s) where
 pub paths_none : {A : Type 0} (xs : List A) {n : ℕ} → n ≡ length xs → eqb n 0 ≡ empty xs
 paths_none xs e = rw e (empty_is xs)
 
-pub ruleset reading = (rules, no_is, setup_cell, setup_shows, setup_same, outbound_is, released_is)
+pub ruleset reading = (rules, no_is, setup_cell, setup_shows, setup_same, outbound_is, dir_small, released_is)
 
 -- ---- a path's state
+pub state_shows : (v : Proven) → state_of (state_code v) ≡ v
+state_shows Live = refl
+state_shows Acked = refl
+state_shows Probing = refl
+
 counts_of : (b : ℕ) → b < 3 → not (eqb b 2) ≡ counts (state_of b)
 counts_of zero p = refl
 counts_of (suc zero) p = refl
@@ -221,19 +237,14 @@ module _ {s : Bytes} {j : ℕ} (f : FitPaths s) (h : j < path_count s) where
   pub state_is : {v : ℕ} → v ≡ get_or s (j * path_width + at_path_state) 0 → state_of v ≡ (path_of (get_or (chunks path_width path_cap s) j [])).state
   state_is {v} e = ap state_of (e ∙ byte_here s (j * path_width + at_path_state)) ∙ state_here f h
 
-  pub state_live : {v : ℕ} → v ≡ get_or s (j * path_width + at_path_state) 0 → v ≡ 0 → Live ≡ (path_of (get_or (chunks path_width path_cap s) j [])).state
-  state_live {v} e z = let q = state_is e in rw z at q
+  pub state_small : {v : ℕ} → v ≡ get_or s (j * path_width + at_path_state) 0 → v < 3
+  state_small e = rw (e ∙ byte_here s (j * path_width + at_path_state)) (state_low f h)
 
-  pub state_acked : {v : ℕ} → v ≡ get_or s (j * path_width + at_path_state) 0 → v ≡ 1 → Acked ≡ (path_of (get_or (chunks path_width path_cap s) j [])).state
-  state_acked {v} e z = let q = state_is e in rw z at q
-
-  pub state_probing : {v : ℕ} → v ≡ get_or s (j * path_width + at_path_state) 0 → (v ≡ 0 → ⊥) → (v ≡ 1 → ⊥) → Probing ≡ (path_of (get_or (chunks path_width path_cap s) j [])).state
-  state_probing {v} e a b = let q = state_is e in rw (ne_eqb v 0 a, ne_eqb v 1 b) at q
+  pub state_named : {v : ℕ} (x : Proven) → state_code x ≡ v → v ≡ get_or s (j * path_width + at_path_state) 0 → x ≡ (path_of (get_or (chunks path_width path_cap s) j [])).state
+  state_named x q e = sym (state_shows x) ∙ ap state_of q ∙ state_is e
 
   pub counts_is : {v : ℕ} → v ≡ get_or s (j * path_width + at_path_state) 0 → not (eqb v 2) ≡ counts (path_of (get_or (chunks path_width path_cap s) j [])).state
-  counts_is {v} e =
-      let l : v < 3 = rw (e ∙ byte_here s (j * path_width + at_path_state)) (state_low f h) in
-      counts_of v l ∙ ap counts (state_is e)
+  counts_is {v} e = counts_of v (state_small e) ∙ ap counts (state_is e)
 
   pub pair_loaded : {x : Pair} {u : Proven} → x ≡ pair_of (take pair_width (drop (j * path_width) s)) → u ≡ (path_of (get_or (chunks path_width path_cap s) j [])).state
       → record { pair = x; state = u } ≡ path_of (get_or (chunks path_width path_cap s) j [])
@@ -257,4 +268,4 @@ module _ {s : Bytes} {j : ℕ} (f : FitPaths s) (h : j < path_count s) (x : Pair
   pub sift_pass : b ≡ false → Sifted (λ w. not (path_at x w)) (view_paths s) j (view_paths s) (j + 1)
   sift_pass t = sifted_pass no_path place_shown (rw (← same_shown, t))
 
-pub ruleset pathing = (rules, path_cell, path_same, state_live, state_acked, state_probing, counts_is, pair_loaded, sift_drop, sift_pass)
+pub ruleset pathing = (rules, path_cell, path_same, state_small, counts_is, pair_loaded, sift_drop, sift_pass)

@@ -21,15 +21,11 @@ use Rattle.node_addr.proofs.Cells.{pair_cell_length, pair_cell_fit, pair_cell_sh
 use Rattle.node_addr.specs.declared.Pair as pair
 use Rattle.node_addr.specs.Layout.{pair_width}
 use Rattle.links_entry.specs.Layout.{at_path_state, path_width}
-use Rattle.links_entry.specs.View.{state_of, path_of, FitPath, view_paths, FitPaths, path_count, no_path, new_path, in_state, full, crowding, no_link}
+use Rattle.links_entry.specs.View.{path_of, FitPath, view_paths, FitPaths, path_count, no_path, new_path, in_state, full, crowding, no_link}
 use Rattle.links_entry.specs.Asking.{and_false, not_true, not_false}
+use Rattle.links_entry.specs.Here.{state_shows}
 
 -- ---- codes
-state_shows : (v : Proven) → state_of (state_code v) ≡ v
-state_shows Live = refl
-state_shows Acked = refl
-state_shows Probing = refl
-
 state_code_lem : (v : Proven) → Code 3 (state_code v ∷ [])
 state_code_lem Live = record { size = refl; low = lit< tt }
 state_code_lem Acked = record { size = refl; low = lit< tt }

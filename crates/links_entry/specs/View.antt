@@ -1,7 +1,8 @@
 -- What link records in memory and by value show, and their canonical form.
-use Rattle.std.specs.Prelude.{◌≡◌, Bool, true, false, not, ◌&&◌, ◌||◌, List, [], map, ℕ, eqb, leb, length, take, drop, get_or, replicate, if◌then◌else◌}
+use Rattle.std.specs.Prelude.{◌≡◌, Bool, true, false, not, ◌&&◌, ◌||◌, List, [], map, ℕ, eqb, leb, length, take, drop, get_or, replicate, if◌then◌else◌, ◌≤◌, Result, MatchResult}
 use Rattle.rules.specs.Base.{option, find, any, keep, Bytes}
 use Rattle.rules.specs.Data.{Pair, same_pair, Dir, Inbound, Outbound, Holder, ALeg, APeer, Proven, Live, Acked, Probing, PathRec, LinkRec}
+use Rattle.rules.specs.Field.{state_code}
 use Rattle.rules.specs.Links.{numbered, path_at}
 use Rattle.lib_laws.specs.Cell.{num, byte_of, flag_of, Code}
 use Rattle.lib_laws.specs.Fields.{cuts}
@@ -12,10 +13,12 @@ use Rattle.node_addr.specs.Layout.{pair_width}
 use Rattle.links_entry.specs.Layout.{link_ws, at_link_count, at_path_count, at_path_state, link_cap, link_width, path_cap, path_width}
 use Rattle.links_entry.specs.declared.record.Dir as dirs
 use Rattle.links_entry.specs.declared.record.Dir.TheVariants as dirv
+use Rattle.links_entry.specs.declared.record.UnknownDir.{UnknownDir}
 use Rattle.links_entry.specs.declared.record.Holder as holders
 use Rattle.links_entry.specs.declared.record.Holder.TheVariants as holderv
 use Rattle.links_entry.specs.declared.record.Proven as provens
 use Rattle.links_entry.specs.declared.record.Proven.TheVariants as provenv
+use Rattle.links_entry.specs.declared.record.UnknownProven.{UnknownProven}
 use Rattle.links_entry.specs.declared.record.Path as path
 use Rattle.links_entry.specs.declared.record.LinkRec as linkrec
 
@@ -34,6 +37,7 @@ pub record FitPath (c : Bytes) : Type 0 where
 abbrev pub view_paths : Bytes → List PathRec
 view_paths s = entries path_of path_width path_cap s
 
+-- a clause, as FitLinks is: a link's paths are a region in its entry
 abbrev pub FitPaths : Bytes → Type 0
 FitPaths s = Store FitPath path_width path_cap s
 
@@ -136,6 +140,13 @@ abbrev pub view_proven : provens.Proven → Proven
 view_proven provenv.Live = Live
 view_proven provenv.Acked = Acked
 view_proven provenv.Probing = Probing
+
+-- what a byte gives: the direction, the state whose byte it is, or an error with a byte that is none's
+abbrev pub DecodesDir : ℕ → Result dirs.Dir UnknownDir → Type 0
+DecodesDir code r = MatchResult r (λ d. dir_code (view_dir d) ≡ code) (λ e. (e.0 ≡ code) × (2 ≤ code))
+
+abbrev pub DecodesProven : ℕ → Result provens.Proven UnknownProven → Type 0
+DecodesProven code r = MatchResult r (λ v. state_code (view_proven v) ≡ code) (λ e. (e.0 ≡ code) × (3 ≤ code))
 
 abbrev pub view_path : path.Path → PathRec
 view_path w = record { pair = view_pair w.pair; state = view_proven w.state }

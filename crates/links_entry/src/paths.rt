@@ -163,11 +163,8 @@ fn state_at(s: &[u8], j: usize) -> Proven
     requires j_bound { j < path_count s.now }
     ensures { view_proven result ≡ (path_of (get_or (chunks path_width path_cap s.now) j [])).state }
 {
-    match get_byte(s, j * PATH_WIDTH + PATH_STATE) {
-        0 => Proven::Live,
-        1 => Proven::Acked,
-        _ => Proven::Probing,
-    }
+    let code = get_byte(s, j * PATH_WIDTH + PATH_STATE);
+    Proven::try_from(code).unwrap()
 }
 
 // The path at a place, by value.

@@ -213,11 +213,8 @@ fn dir_at(s: &[u8], i: usize) -> Dir
     requires i_bound { i < link_count s.now }
     ensures { view_dir result ≡ (get_or (view_links s.now) i no_link).dir }
 {
-    if outbound_at(s, i) {
-        Dir::Outbound
-    } else {
-        Dir::Inbound
-    }
+    let code = get_byte(s, i * LINK_WIDTH + DIR);
+    Dir::try_from(code).unwrap()
 }
 
 // The record at a place, by value.

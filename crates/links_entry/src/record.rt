@@ -1,4 +1,6 @@
 // A link record by value.
+ghost use Rattle.links_entry.specs.View.{DecodesDir, DecodesProven};
+
 use crate::layout::PATH_CAP;
 use arrayvec::ArrayVec;
 use node_addr::{LinkNo, NodeAddr, Pair};
@@ -10,6 +12,10 @@ pub enum Dir {
     Outbound,
 }
 
+// A byte that is no direction.
+#[derive(Clone, Copy)]
+pub struct UnknownDir(pub u8);
+
 // A path's state. A path that is probing keeps no connection open.
 #[derive(Clone, Copy, Default)]
 pub enum Proven {
@@ -18,6 +24,10 @@ pub enum Proven {
     Acked,
     Probing,
 }
+
+// A byte that is no state.
+#[derive(Clone, Copy)]
+pub struct UnknownProven(pub u8);
 
 #[derive(Clone, Copy, Default)]
 pub struct Path {
@@ -40,4 +50,33 @@ pub struct LinkRec {
     pub holder: Holder,
     pub released: bool,
     pub paths: ArrayVec<Path, PATH_CAP>,
+}
+
+impl TryFrom<u8> for Dir {
+    type Error = UnknownDir;
+
+    ghost try_from_gives = { DecodesDir };
+
+    fn try_from(code: u8) -> Result<Self, UnknownDir> {
+        match code {
+            0 => Ok(Dir::Inbound),
+            1 => Ok(Dir::Outbound),
+            _ => Err(UnknownDir(code)),
+        }
+    }
+}
+
+impl TryFrom<u8> for Proven {
+    type Error = UnknownProven;
+
+    ghost try_from_gives = { DecodesProven };
+
+    fn try_from(code: u8) -> Result<Self, UnknownProven> {
+        match code {
+            0 => Ok(Proven::Live),
+            1 => Ok(Proven::Acked),
+            2 => Ok(Proven::Probing),
+            _ => Err(UnknownProven(code)),
+        }
+    }
 }

@@ -27,7 +27,7 @@ pair_cell p = digits 4 p.transport.0 ++ cell p.addr
 unfoldable pub pair_here : Bytes → Pair
 pair_here s = record { transport = num (take 4 s); addr = take (get_or s 4 0) (drop 5 s) }
 
--- it stands whole at a place
+-- it stands whole at a place; a clause, since it ties the place to the record
 pub record PairIn (s : Bytes) (at : ℕ) : Type 0 where
   pub small : get_or s (at + 4) 0 ≤ 48
   pub room : at + 5 + get_or s (at + 4) 0 ≤ length s

@@ -4,6 +4,7 @@
 pub mod layout;
 pub mod padded;
 pub mod place;
+pub mod search;
 
 ghost use Rattle.std.specs.Prelude.{◌≡◌, [], replicate};
 ghost use Rattle.node_addr.specs.View.{view_pair};
@@ -35,6 +36,7 @@ pub struct Pair {
     pub addr: Addr,
 }
 
+// Zeros: by hand for its clause, which a derived Default does not state.
 impl<const N: usize> Default for Fixed<N> {
     fn default() -> Self
         ensures { result.0 ≡ replicate N 0 }
@@ -43,7 +45,7 @@ impl<const N: usize> Default for Fixed<N> {
     }
 }
 
-// Transport 0, no address.
+// Transport 0, no address: by hand for its clause, which a derived Default does not state.
 impl Default for Pair {
     fn default() -> Self
         ensures { view_pair result ≡ record { transport = 0; addr = [] } }

@@ -4,6 +4,7 @@ ghost use Rattle.rules.specs.Base.{same};
 ghost use Rattle.lib_laws.specs.Splice.{Wrote};
 ghost use Rattle.lib_laws.specs.Cell.{text_of, Text};
 
+use lib_bytes::compare::eq_bytes;
 use lib_bytes::read::{get_byte, take, take_first};
 use lib_bytes::write::{put, put_byte, put_first};
 
@@ -70,7 +71,7 @@ impl<const N: usize> Padded<N> {
         put(s, a, self.bytes)
     }
 
-    // Whether a cell has the same.
+    // Whether a cell holds the same bytes: by slices, which are compared in words; arrays are, byte by byte.
     pub fn is_cell(&self, s: &[u8], at: usize) -> bool
         requires in_bounds { at + 1 + N ≤ length s.now }
         requires is_text { Text N (take 1 (drop at s.now)) (take N (drop (at + 1) s.now)) }
@@ -79,6 +80,6 @@ impl<const N: usize> Padded<N> {
         if get_byte(s, at) as usize != self.len {
             return false;
         }
-        self.bytes == take(s, at + 1)
+        eq_bytes(&self.bytes, 0, s, at + 1, N)
     }
 }

@@ -1,4 +1,4 @@
-// Pairs, node addresses, digests and messages at a place of lent memory: read, written, and compared where they stand. A writer answers the place after what it wrote.
+// Pairs, node addresses, digests and messages at a place of lent memory: read, written, and compared where they stand, since no value is there that could derive it. A writer answers the place after what it wrote.
 ghost use Rattle.std.specs.Prelude.{◌≡◌, ◌+◌, ◌≤◌, length, take, drop, option_map};
 ghost use Rattle.rules.specs.Base.{same};
 ghost use Rattle.rules.specs.Std.{before};
@@ -31,6 +31,7 @@ pub fn put_fixed<const N: usize>(s: &mut [u8], at: usize, x: Fixed<N>) -> usize
     put(s, at, x.0)
 }
 
+#[tactic(auto, using(lib_laws::specs::Numbers::same_pointwise))]
 pub fn eq_fixed_at<const N: usize>(s: &[u8], at: usize, x: Fixed<N>) -> bool
     requires { at + N ≤ length s.now }
     ensures { result ≡ same x.entry.0 (take N (drop at s.now)) }

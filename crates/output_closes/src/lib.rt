@@ -17,7 +17,7 @@ use node_addr::layout::FRAME_LEN;
 use node_addr::{LinkNo, Pair};
 use output_code::kind::Kind;
 use output_field::layout::{LINK_LIST_HEAD, LINK_LIST_LEN, LIST_LEN, RELEASE_ONE_LEN};
-use output_field::{put_frame, put_pair};
+use output_field::{put_kind, put_pair};
 
 // The pairs one after another, without their count.
 pub fn put_pairs(out: &mut [u8], at: usize, c: &Closes) -> usize
@@ -38,7 +38,7 @@ pub fn put_retire(out: &mut [u8], at: usize, link: LinkNo, c: &Closes) -> usize
 {
     let n = c.len();
     let e = put_pairs(out, at + LINK_LIST_HEAD, c);
-    let a = put_frame(out, at, e - at - FRAME_LEN, Kind::Retire);
+    let a = put_kind(out, at, e - at - FRAME_LEN, Kind::Retire);
     let b = put_be(out, a, link.0, U64);
     put_be(out, b, n as u64, 1);
     e
@@ -48,7 +48,7 @@ fn put_release_none(out: &mut [u8], at: usize, link: LinkNo) -> usize
     requires { at + 13 ≤ length out.old }
     ensures { Wrote out.old at 13 (output_record (Output.Release link.0 [])) out.new result }
 {
-    let a = put_frame(out, at, LINK_LIST_LEN, Kind::Release);
+    let a = put_kind(out, at, LINK_LIST_LEN, Kind::Release);
     let b = put_be(out, a, link.0, U64);
     put_be(out, b, 0, 1)
 }
@@ -57,7 +57,7 @@ fn put_release_one(out: &mut [u8], at: usize, link: LinkNo, p: Pair) -> usize
     requires { at + (18 + p.addr.len) ≤ length out.old }
     ensures { Wrote out.old at (18 + p.addr.len) (output_record (Output.Release link.0 (view_pair p ∷ []))) out.new result }
 {
-    let a = put_frame(out, at, RELEASE_ONE_LEN + p.addr.len, Kind::Release);
+    let a = put_kind(out, at, RELEASE_ONE_LEN + p.addr.len, Kind::Release);
     let b = put_be(out, a, link.0, U64);
     let c = put_be(out, b, 1, 1);
     put_pair(out, c, p)
@@ -83,6 +83,6 @@ pub fn put_close_header(out: &mut [u8], at: usize, count: usize, n: usize) -> us
     requires at_in_bounds { at + 5 ≤ length out.old }
     ensures { Wrote out.old at 5 (close_header count n) out.new result }
 {
-    let a = put_frame(out, at, LIST_LEN + n, Kind::Close);
+    let a = put_kind(out, at, LIST_LEN + n, Kind::Close);
     put_be(out, a, count as u64, 1)
 }

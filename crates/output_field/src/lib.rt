@@ -18,32 +18,41 @@ use node_addr::layout::VERSION;
 use output_code::kind::Kind;
 
 // What stands before n bytes of fields: length (of what follows), version, kind.
-pub fn put_frame(out: &mut [u8], at: usize, n: usize, kind: Kind) -> usize
+pub fn put_frame(out: &mut [u8], at: usize, n: usize, kind: u8) -> usize
+    requires n_bound { n + 2 < 65536 }
+    requires at_in_bounds { at + 4 ≤ length out.old }
+    ensures { Wrote out.old at 4 (header kind n) out.new result }
+{
+    let a = put_be(out, at, (n + FRAMED) as u64, U16);
+    let b = put_byte(out, a, VERSION);
+    put_byte(out, b, kind)
+}
+
+// The same of an output's kind.
+pub fn put_kind(out: &mut [u8], at: usize, n: usize, kind: Kind) -> usize
     requires n_bound { n + 2 < 65536 }
     requires at_in_bounds { at + 4 ≤ length out.old }
     ensures { Wrote out.old at 4 (header (kind_code kind) n) out.new result }
 {
-    let a = put_be(out, at, (n + FRAMED) as u64, U16);
-    let b = put_byte(out, a, VERSION);
-    put_byte(out, b, kind as u8)
+    put_frame(out, at, n, kind as u8)
 }
 
 pub fn put_flag(out: &mut [u8], at: usize, b: bool) -> usize
     requires { at + 1 ≤ length out.old }
     ensures { Wrote out.old at 1 (flag_bytes b) out.new result }
 {
-    put_byte(out, at, u8::from(b))
+    lib_bytes::flag::put_flag(out, at, b)
 }
 
-// A message of n bytes that stands in another slice.
-pub fn put_message(out: &mut [u8], at: usize, src: &[u8], from: usize, n: usize) -> usize
-    requires n_bound { n ≤ 128 }
-    requires n_in_bounds { from + n ≤ length src.now }
-    requires n_in_bounds_2 { at + (2 + n) ≤ length out.old }
-    ensures { Wrote out.old at (2 + n) (message_bytes (take n (drop from src.now))) out.new result }
+// A message.
+pub fn put_message(out: &mut [u8], at: usize, m: &[u8]) -> usize
+    requires len_bound { length m.now ≤ 128 }
+    requires in_bounds { at + (2 + length m.now) ≤ length out.old }
+    ensures { Wrote out.old at (2 + length m.now) (message_bytes m.now) out.new result }
 {
+    let n = m.len();
     let a = put_be(out, at, n as u64, U16);
-    put_run(out, a, src, from, n)
+    put_run(out, a, m, 0, n)
 }
 
 pub fn put_pair(out: &mut [u8], at: usize, p: Pair) -> usize

@@ -19,14 +19,14 @@ use output_field::layout::{
     ANSWER_LEN, DONE_LEN, FREE_LEN, INSTALL_LEN, OPENED_LEN, REJECT_LEN, REJECT_NOBODY_LEN,
     REKEY_LEN, REMOVE_LEN, RESEND_LEN, RESET_LEN, RETRY_LEN, WAKE_LEN, WAKE_NONE_LEN,
 };
-use output_field::{put_flag, put_frame, put_message, put_pair};
+use output_field::{put_flag, put_kind, put_message, put_pair};
 
 // 0, the number of the call, as its byte: 0, which no Refusal is, for none (settle::refusal_number has the others).
 pub fn put_done(out: &mut [u8], at: usize, number: u8) -> usize
     requires { at + 5 ≤ length out.old }
     ensures { Wrote out.old at 5 (done_record number) out.new result }
 {
-    let a = put_frame(out, at, DONE_LEN, Kind::Done);
+    let a = put_kind(out, at, DONE_LEN, Kind::Done);
     put_byte(out, a, number)
 }
 
@@ -35,48 +35,31 @@ pub fn put_opened(out: &mut [u8], at: usize, link: LinkNo) -> usize
     requires { at + 12 ≤ length out.old }
     ensures { Wrote out.old at 12 (output_record (Opened link.0)) out.new result }
 {
-    let a = put_frame(out, at, OPENED_LEN, Kind::Opened);
+    let a = put_kind(out, at, OPENED_LEN, Kind::Opened);
     put_be(out, a, link.0, U64)
 }
 
-// 2, of a message of n bytes that stands in another slice.
-pub fn put_answer(
-    out: &mut [u8],
-    at: usize,
-    link: LinkNo,
-    stored: bool,
-    src: &[u8],
-    from: usize,
-    n: usize,
-) -> usize
-    requires n_bound { n ≤ 128 }
-    requires n_in_bounds { from + n ≤ length src.now }
-    requires n_in_bounds_2 { at + (15 + n) ≤ length out.old }
-    ensures { Wrote out.old at (15 + n) (output_record (Output.Answer link.0 stored (take n (drop from src.now)))) out.new result }
+// 2
+pub fn put_answer(out: &mut [u8], at: usize, link: LinkNo, stored: bool, msg2: &[u8]) -> usize
+    requires len_bound { length msg2.now ≤ 128 }
+    requires in_bounds { at + (15 + length msg2.now) ≤ length out.old }
+    ensures { Wrote out.old at (15 + length msg2.now) (output_record (Output.Answer link.0 stored msg2.now)) out.new result }
 {
-    let a = put_frame(out, at, ANSWER_LEN + n, Kind::Answer);
+    let a = put_kind(out, at, ANSWER_LEN + msg2.len(), Kind::Answer);
     let b = put_be(out, a, link.0, U64);
     let c = put_flag(out, b, stored);
-    put_message(out, c, src, from, n)
+    put_message(out, c, msg2)
 }
 
 // 3
-pub fn put_resend(
-    out: &mut [u8],
-    at: usize,
-    link: LinkNo,
-    src: &[u8],
-    from: usize,
-    n: usize,
-) -> usize
-    requires n_bound { n ≤ 128 }
-    requires n_in_bounds { from + n ≤ length src.now }
-    requires n_in_bounds_2 { at + (14 + n) ≤ length out.old }
-    ensures { Wrote out.old at (14 + n) (output_record (Resend link.0 (take n (drop from src.now)))) out.new result }
+pub fn put_resend(out: &mut [u8], at: usize, link: LinkNo, msg1: &[u8]) -> usize
+    requires len_bound { length msg1.now ≤ 128 }
+    requires in_bounds { at + (14 + length msg1.now) ≤ length out.old }
+    ensures { Wrote out.old at (14 + length msg1.now) (output_record (Resend link.0 msg1.now)) out.new result }
 {
-    let a = put_frame(out, at, RESEND_LEN + n, Kind::Resend);
+    let a = put_kind(out, at, RESEND_LEN + msg1.len(), Kind::Resend);
     let b = put_be(out, a, link.0, U64);
-    put_message(out, b, src, from, n)
+    put_message(out, b, msg1)
 }
 
 // 4
@@ -84,7 +67,7 @@ pub fn put_rekey(out: &mut [u8], at: usize, peer: NodeAddr, on_link: bool, reach
     requires { at + 22 ≤ length out.old }
     ensures { Wrote out.old at 22 (output_record (Rekey peer.0 on_link reachable)) out.new result }
 {
-    let a = put_frame(out, at, REKEY_LEN, Kind::Rekey);
+    let a = put_kind(out, at, REKEY_LEN, Kind::Rekey);
     let b = put_fixed(out, a, peer);
     let c = put_flag(out, b, on_link);
     put_flag(out, c, reachable)
@@ -106,7 +89,7 @@ pub fn put_install(
         (output_record (Install (record { peer = peer.0; link = link.0; pair = view_pair pair; build = build_of build; initiator = initiator; lease = lease })))
         out.new result }
 {
-    let a = put_frame(out, at, INSTALL_LEN + pair.addr.len, Kind::Install);
+    let a = put_kind(out, at, INSTALL_LEN + pair.addr.len, Kind::Install);
     let x = put_fixed(out, a, peer);
     let y = put_be(out, x, link.0, U64);
     let z = put_pair(out, y, pair);
@@ -120,7 +103,7 @@ pub fn put_reset(out: &mut [u8], at: usize, peer: NodeAddr, t: Transition) -> us
     requires { at + 21 ≤ length out.old }
     ensures { Wrote out.old at 21 (output_record (Reset peer.0 (transition_of t))) out.new result }
 {
-    let a = put_frame(out, at, RESET_LEN, Kind::Reset);
+    let a = put_kind(out, at, RESET_LEN, Kind::Reset);
     let b = put_fixed(out, a, peer);
     put_byte(out, b, t as u8)
 }
@@ -130,7 +113,7 @@ pub fn put_remove(out: &mut [u8], at: usize, peer: NodeAddr, w: Why) -> usize
     requires { at + 21 ≤ length out.old }
     ensures { Wrote out.old at 21 (output_record (Output.Remove peer.0 (why_of w))) out.new result }
 {
-    let a = put_frame(out, at, REMOVE_LEN, Kind::Remove);
+    let a = put_kind(out, at, REMOVE_LEN, Kind::Remove);
     let b = put_fixed(out, a, peer);
     put_byte(out, b, w as u8)
 }
@@ -140,7 +123,7 @@ pub fn put_free(out: &mut [u8], at: usize, lease: u32) -> usize
     requires { at + 8 ≤ length out.old }
     ensures { Wrote out.old at 8 (output_record (Free lease)) out.new result }
 {
-    let a = put_frame(out, at, FREE_LEN, Kind::Free);
+    let a = put_kind(out, at, FREE_LEN, Kind::Free);
     put_be(out, a, lease as u64, U32)
 }
 
@@ -149,7 +132,7 @@ pub fn put_retry(out: &mut [u8], at: usize, peer: NodeAddr) -> usize
     requires { at + 20 ≤ length out.old }
     ensures { Wrote out.old at 20 (output_record (Retry peer.0)) out.new result }
 {
-    let a = put_frame(out, at, RETRY_LEN, Kind::Retry);
+    let a = put_kind(out, at, RETRY_LEN, Kind::Retry);
     put_fixed(out, a, peer)
 }
 
@@ -157,7 +140,7 @@ fn put_reject_asked(out: &mut [u8], at: usize, peer: NodeAddr, source: Source, w
     requires { at + 23 ≤ length out.old }
     ensures { Wrote out.old at 23 (output_record (Reject (Some (peer.0, source_of source)) (denial_of why))) out.new result }
 {
-    let a = put_frame(out, at, REJECT_LEN, Kind::Reject);
+    let a = put_kind(out, at, REJECT_LEN, Kind::Reject);
     let b = put_byte(out, a, 1);
     let c = put_fixed(out, b, peer);
     let e = put_byte(out, c, source as u8);
@@ -168,7 +151,7 @@ fn put_reject_unasked(out: &mut [u8], at: usize, why: Denial) -> usize
     requires { at + 6 ≤ length out.old }
     ensures { Wrote out.old at 6 (output_record (Reject None (denial_of why))) out.new result }
 {
-    let a = put_frame(out, at, REJECT_NOBODY_LEN, Kind::Reject);
+    let a = put_kind(out, at, REJECT_NOBODY_LEN, Kind::Reject);
     let b = put_byte(out, a, 0);
     put_byte(out, b, denial_code(why))
 }
@@ -195,7 +178,7 @@ fn put_wake_at(out: &mut [u8], at: usize, time: u64) -> usize
     requires { at + 13 ≤ length out.old }
     ensures { Wrote out.old at 13 (output_record (Output.Wake (Some time))) out.new result }
 {
-    let a = put_frame(out, at, WAKE_LEN, Kind::Wake);
+    let a = put_kind(out, at, WAKE_LEN, Kind::Wake);
     let b = put_byte(out, a, 1);
     put_be(out, b, time, U64)
 }
@@ -204,7 +187,7 @@ fn put_wake_never(out: &mut [u8], at: usize) -> usize
     requires { at + 5 ≤ length out.old }
     ensures { Wrote out.old at 5 (output_record (Output.Wake None)) out.new result }
 {
-    let a = put_frame(out, at, WAKE_NONE_LEN, Kind::Wake);
+    let a = put_kind(out, at, WAKE_NONE_LEN, Kind::Wake);
     put_byte(out, a, 0)
 }
 

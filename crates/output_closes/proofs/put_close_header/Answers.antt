@@ -4,4 +4,4 @@ use Rattle.output_closes.proofs.put_close_header.Goals as goal
 
 pub returns : goal.returns
 unfolding close_header
-returns c = wrote_then c.put_frame-a.ensures c.put_be.ensures
+returns c = wrote_then c.put_kind-a.ensures c.put_be.ensures

@@ -9,4 +9,4 @@ use Rattle.output_closes.proofs.put_release_none.Goals as goal
 
 pub returns : goal.returns
 unfolding output_bytes
-returns c = written (Output.Release _ []) _ _ c.put_frame-a.ensures (wrote_then c.put_be-b.ensures (list_none c.put_be.ensures)) refl refl
+returns c = written (Output.Release _ []) _ _ c.put_kind-a.ensures (wrote_then c.put_be-b.ensures (list_none c.put_be.ensures)) refl refl

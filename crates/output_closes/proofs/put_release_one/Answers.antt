@@ -9,4 +9,4 @@ use Rattle.output_closes.proofs.put_release_one.Goals as goal
 
 pub returns : goal.returns
 unfolding output_bytes
-returns c = written (Output.Release _ (_ ∷ [])) _ _ c.put_frame-a.ensures (wrote_then c.put_be-b.ensures (list_one _ (wrote_then c.put_be-c.ensures c.put_pair.ensures))) (omega arith) (omega arith)
+returns c = written (Output.Release _ (_ ∷ [])) _ _ c.put_kind-a.ensures (wrote_then c.put_be-b.ensures (list_one _ (wrote_then c.put_be-c.ensures c.put_pair.ensures))) (omega arith) (omega arith)

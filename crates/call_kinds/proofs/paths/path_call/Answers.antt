@@ -3,8 +3,7 @@ use Rattle.std.proofs.Common.{ap, sym, ◌∙◌}
 use Rattle.rules.specs.Settle.{step}
 use Rattle.std.specs.Prelude.{option_map, Some}
 use Rattle.refusal.specs.Passed.{passed_missing}
-use Rattle.call_contract.specs.Did.{puts_length, ruled_ok}
-use Rattle.call_kinds.specs.Ask.{unread, read_space, read_done}
+use Rattle.call_kinds.specs.Ask.{unread, read_done}
 use Rattle.rules.specs.Data.{Call}
 use Rattle.node_addr.specs.View.{view_pair}
 use Rattle.refusal.specs.Passed.{passed}

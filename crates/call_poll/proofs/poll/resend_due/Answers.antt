@@ -20,7 +20,7 @@ pub leg_msg1-m-requires : goal.leg_msg1-m-requires
 leg_msg1-m-requires c = record { fit_table = c.requires.fit_table; i_in_bounds = resend_within c.loop-i.invariant (sym c.find_resend.ensures ∙ c.in-Some.is) }
 
 pub put_resend-e-requires : goal.put_resend-e-requires
-put_resend-e-requires c = record { n_bound = c.leg_msg1-m.ensures.len_bound; n_in_bounds = search rules; n_in_bounds_2 = resend_room c.loop-i.invariant (sym c.find_resend.ensures ∙ c.in-Some.is) c.leg_msg1-m.ensures.value }
+put_resend-e-requires c = record { len_bound = c.leg_msg1-m.ensures.len_bound; in_bounds = resend_room c.loop-i.invariant (sym c.find_resend.ensures ∙ c.in-Some.is) c.leg_msg1-m.ensures.value }
 
 pub overflow_add-from : goal.overflow_add-from
 overflow_add-from c = next_place c.requires.fit_table (resend_within c.loop-i.invariant (sym c.find_resend.ensures ∙ c.in-Some.is))

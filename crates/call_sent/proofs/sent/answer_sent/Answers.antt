@@ -1,5 +1,6 @@
 -- `call_sent::sent::answer_sent` meets its contract.
-use Rattle.std.proofs.Common.{sym, ◌∙◌}
+use Rattle.std.proofs.Common.{sym, ap, ◌∙◌}
+use Rattle.rules.specs.Base.{is}
 use Rattle.lib_laws.specs.Cell.{mapped_some, mapped_none}
 use Rattle.lib_laws.specs.Place.{place_within}
 use Rattle.call_contract.specs.Did.{space_is, did_is}
@@ -27,7 +28,7 @@ promote-requires c =
     let f = mapped_some _ c.leg_peer.ensures c.in-Some.is in
     let l = sym c.find_link.ensures ∙ c.in-Some-find_link.is in
     let e = sent_promotes _ _ _ c.requires.space _ c.requires.t_value c.requires.i_value f c.find_held.ensures (sym c.is_some.ensures ∙ c.if-is_some.false) _ l in
-    record { ready = c.requires.ready; i_in_bounds = place_within _ _ _ c.requires.t_value; t_value = leg_own _ _ _ c.requires.t_value; named = f; j_in_bounds = place_within _ _ _ l; space = space_is c.requires.space e }
+    record { ready = c.requires.ready; i_in_bounds = place_within _ _ _ c.requires.t_value; t_value = leg_own _ _ _ c.requires.t_value; i_value = ap is f; j_in_bounds = place_within _ _ _ l; space = space_is c.requires.space e }
 
 pub returns : goal.returns
 returns c =

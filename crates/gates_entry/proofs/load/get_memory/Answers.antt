@@ -6,8 +6,8 @@ use Rattle.gates_entry.proofs.load.get_memory.Goals as goal
 pub load_silent-requires : goal.load_silent-requires
 load_silent-requires c = record { silence_len_in_bounds = search rules; fit_silence_cell = silence_cell_there c.args.s.now c.args.i c.requires.fit_gates c.requires.i_bound }
 
-pub load_replays-requires : goal.load_replays-requires
-load_replays-requires c = record { replays_len_in_bounds = search rules; store = (memory_there c.args.s.now c.args.i c.requires.fit_gates c.requires.i_bound).replays }
+pub load_row-requires : goal.load_row-requires
+load_row-requires c = (search rules, (search rules, (search rules, (memory_there c.args.s.now c.args.i c.requires.fit_gates c.requires.i_bound).replays)))
 
 pub returns : goal.returns
 returns c =
@@ -16,6 +16,6 @@ returns c =
       stamp = c.get_option.ensures;
       fit = c.load_silent.ensures.fit_silence;
       silence = c.load_silent.ensures.result_value;
-      fits = c.load_replays.ensures.fit_replays;
-      replays = c.load_replays.ensures.result_value;
+      fits = c.load_row.ensures.fit;
+      replays = c.load_row.ensures.value;
     }))

@@ -3,8 +3,8 @@ use Rattle.gates_entry.specs.Entry.{counted_cell, silence_loaded}
 use Rattle.lib_laws.specs.Both.{both}
 use Rattle.gates_entry.proofs.load.load_silence.Goals as goal
 
-pub load_digests-requires : goal.load_digests-requires
-load_digests-requires c = record { digests_len_in_bounds = search rules; store = counted_cell c.args.s.now c.args.at c.requires.fit_silence_cell }
+pub load_row-requires : goal.load_row-requires
+load_row-requires c = (search rules, (search rules, (search rules, counted_cell c.args.s.now c.args.at c.requires.fit_silence_cell)))
 
 pub returns : goal.returns
 returns c =
@@ -14,6 +14,6 @@ returns c =
       last = c.get_8.ensures.value;
       until = c.get_option-2.ensures;
       wide = record { epoch = search rules; count = search rules; last = search rules; until = search rules };
-      fits = c.load_digests.ensures.fit_digests;
-      counted = c.load_digests.ensures.result_value;
+      fits = c.load_row.ensures.fit;
+      counted = c.load_row.ensures.value;
     }))

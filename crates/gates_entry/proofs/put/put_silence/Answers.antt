@@ -1,8 +1,9 @@
 use Rattle.lib_laws.specs.Splice.{wrote_then}
-use Rattle.gates_entry.specs.Entry.{put_silence_is}
+use Rattle.gates_entry.specs.Entry.{digests_bytes, put_silence_is}
 use Rattle.gates_entry.proofs.put.put_silence.Goals as goal
 
 pub returns : goal.returns
+unfolding digests_bytes
 returns c =
     put_silence_is _ (
     wrote_then (
@@ -12,5 +13,5 @@ returns c =
     c.put_be-b.ensures
     ) c.put_be-c.ensures
     ) c.put_option-d.ensures
-    ) c.put_digests.ensures
+    ) c.put_row.ensures
     )

@@ -1,19 +1,12 @@
-use Rattle.held.specs.Walk.{scanning_skip, slot_before, slot_last}
-use Rattle.held.specs.At.{precedes_here}
-use borrow.Author.Rules.{rules}
-use native.Mathlib.Omega.{arith}
-use mathlib.Core.Path.{sym, ◌∙◌}
+use Rattle.std.proofs.Common.{refl}
+use Rattle.rules.specs.Std.{before}
+use Rattle.node_addr.specs.Search.{entries_room, entries_takes}
+use Rattle.held.specs.At.{precedes}
+use Rattle.held.specs.View.{held_of}
 use Rattle.held.proofs.map.place_for.Goals as goal
 
-pub returns-then-lt_node_at : goal.returns-then-lt_node_at
-returns-then-lt_node_at c =
-    let l = c.loop-i in
-    slot_before l.invariant (search rules) (sym (precedes_here l.invariant.fit (omega arith) c.args.peer.0 c.lt_node_at.ensures) ∙ c.if-lt_node_at.true)
-
-pub loop-i-preserved : goal.loop-i-preserved
-loop-i-preserved c =
-    let l = c.loop-i in
-    scanning_skip l.invariant (search rules) (sym (precedes_here l.invariant.fit (omega arith) c.args.peer.0 c.lt_node_at.ensures) ∙ c.if-lt_node_at.false)
+pub place_before-requires-clause-in_bounds : goal.place_before-requires-clause-in_bounds
+place_before-requires-clause-in_bounds c = entries_room c.requires c.held_count.ensures.value
 
 pub returns : goal.returns
-returns c = slot_last c.loop-i.invariant (search rules)
+returns c = entries_takes c.requires c.held_count.ensures.value held_of (precedes c.args.peer.0) (before c.args.peer.0) (λ x. refl) c.place_before.ensures

@@ -13,3 +13,6 @@ returns-in_err-skip-clause-took c = rw c.from_residual-in_err-skip.ensures (pair
 
 pub returns-clause-took : goal.returns-clause-took
 returns-clause-took c = pair_on c.in_ok-at.ensures c.get_byte-n.ensures (within (search rules) c.in_ok-skip.ensures)
+
+pub returns-clause-stands : goal.returns-clause-stands
+returns-clause-stands c = c.in_ok-at.ensures.place.0

@@ -10,7 +10,7 @@ pub returns : goal.returns
 unfolding output_bytes install_bytes
 returns c =
     let built = rw build_byte at c.put_byte-b.ensures in
-    written (Install _) _ _ c.put_frame-a.ensures
+    written (Install _) _ _ c.put_kind-a.ensures
     (wrote_then
     (wrote_then (wrote_then (wrote_then (wrote_then c.put_fixed-x.ensures c.put_be-y.ensures) c.put_pair-z.ensures) built) c.put_flag-f.ensures)
     c.put_be.ensures)

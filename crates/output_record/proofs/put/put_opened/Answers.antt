@@ -6,4 +6,4 @@ use Rattle.output_record.proofs.put.put_opened.Goals as goal
 
 pub returns : goal.returns
 unfolding output_bytes
-returns c = written (Opened _) _ _ c.put_frame-a.ensures c.put_be.ensures refl refl
+returns c = written (Opened _) _ _ c.put_kind-a.ensures c.put_be.ensures refl refl

@@ -12,7 +12,7 @@ unfolding output_bytes
 returns c =
     let source = rw source_byte at c.put_byte-e.ensures in
     let reason = rw c.denial_code.ensures at c.put_byte.ensures in
-    written (Reject (Some _) _) _ _ c.put_frame-a.ensures
+    written (Reject (Some _) _) _ _ c.put_kind-a.ensures
     (wrote_then (wrote_then (wrote_then c.put_byte-b.ensures c.put_fixed-c.ensures) source) reason)
     refl
     refl

@@ -8,4 +8,4 @@ use Rattle.output_record.proofs.put.put_reject_unasked.Goals as goal
 
 pub returns : goal.returns
 unfolding output_bytes
-returns c = written (Reject None _) _ _ c.put_frame-a.ensures (wrote_then c.put_byte-b.ensures (rw c.denial_code.ensures at c.put_byte.ensures)) refl refl
+returns c = written (Reject None _) _ _ c.put_kind-a.ensures (wrote_then c.put_byte-b.ensures (rw c.denial_code.ensures at c.put_byte.ensures)) refl refl

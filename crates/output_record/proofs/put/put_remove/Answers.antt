@@ -8,4 +8,4 @@ use Rattle.output_record.proofs.put.put_remove.Goals as goal
 
 pub returns : goal.returns
 unfolding output_bytes
-returns c = written (Output.Remove _ _) _ _ c.put_frame-a.ensures (wrote_then c.put_fixed-b.ensures (rw why_byte at c.put_byte.ensures)) refl refl
+returns c = written (Output.Remove _ _) _ _ c.put_kind-a.ensures (wrote_then c.put_fixed-b.ensures (rw why_byte at c.put_byte.ensures)) refl refl

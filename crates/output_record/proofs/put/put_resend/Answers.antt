@@ -7,4 +7,4 @@ use Rattle.output_record.proofs.put.put_resend.Goals as goal
 
 pub returns : goal.returns
 unfolding output_bytes
-returns c = written (Resend _ _) _ _ c.put_frame-a.ensures (wrote_then c.put_be-b.ensures c.put_message.ensures) (omega arith) (omega arith)
+returns c = written (Resend _ _) _ _ c.put_kind-a.ensures (wrote_then c.put_be-b.ensures c.put_message.ensures) (omega arith) (omega arith)

@@ -8,4 +8,4 @@ use Rattle.output_record.proofs.put.put_reset.Goals as goal
 
 pub returns : goal.returns
 unfolding output_bytes
-returns c = written (Reset _ _) _ _ c.put_frame-a.ensures (wrote_then c.put_fixed-b.ensures (rw transition_byte at c.put_byte.ensures)) refl refl
+returns c = written (Reset _ _) _ _ c.put_kind-a.ensures (wrote_then c.put_fixed-b.ensures (rw transition_byte at c.put_byte.ensures)) refl refl

@@ -6,4 +6,4 @@ use Rattle.output_record.proofs.put.put_retry.Goals as goal
 
 pub returns : goal.returns
 unfolding output_bytes
-returns c = written (Retry _) _ _ c.put_frame-a.ensures c.put_fixed.ensures refl refl
+returns c = written (Retry _) _ _ c.put_kind-a.ensures c.put_fixed.ensures refl refl

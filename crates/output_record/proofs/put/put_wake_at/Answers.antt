@@ -8,4 +8,4 @@ use Rattle.output_record.proofs.put.put_wake_at.Goals as goal
 
 pub returns : goal.returns
 unfolding output_bytes
-returns c = written (Output.Wake (Some _)) _ _ c.put_frame-a.ensures (wrote_then c.put_byte-b.ensures c.put_be.ensures) refl refl
+returns c = written (Output.Wake (Some _)) _ _ c.put_kind-a.ensures (wrote_then c.put_byte-b.ensures c.put_be.ensures) refl refl

@@ -7,4 +7,4 @@ use Rattle.output_record.proofs.put.put_wake_never.Goals as goal
 
 pub returns : goal.returns
 unfolding output_bytes
-returns c = written (Output.Wake None) _ _ c.put_frame-a.ensures c.put_byte.ensures refl refl
+returns c = written (Output.Wake None) _ _ c.put_kind-a.ensures c.put_byte.ensures refl refl

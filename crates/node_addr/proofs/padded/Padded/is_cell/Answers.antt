@@ -1,7 +1,6 @@
 use Rattle.std.proofs.Common.{sym, ◌∙◌}
 use Rattle.lib_laws.specs.Cell.{byte_here}
-use Rattle.lib_laws.specs.Numbers.{same_pointwise}
-use Rattle.node_addr.specs.Alike.{same_unlike, same_arrays}
+use Rattle.node_addr.specs.Alike.{same_unlike, same_front, same_arrays}
 use Rattle.node_addr.proofs.Filled.{kept_padded}
 use Rattle.node_addr.proofs.padded.Padded.is_cell.Goals as goal
 
@@ -13,6 +12,5 @@ returns-then-get_byte-self g c =
 pub returns : goal.returns
 returns g c =
     let v = c.args in
-    c.eq.ensures
-    ∙ same_pointwise v.self.now.bytes c.take.result
-    ∙ rw c.take.ensures (same_arrays (kept_padded v.self.now) c.requires.is_text.kept (sym c.if-get_byte-self.false ∙ c.get_byte.ensures ∙ byte_here v.s.now v.«at»))
+    same_front _ v.self.now.bytes _ v.self.now.size c.eq_bytes.ensures
+    ∙ same_arrays (kept_padded v.self.now) c.requires.is_text.kept (sym c.if-get_byte-self.false ∙ c.get_byte.ensures ∙ byte_here v.s.now v.«at»)

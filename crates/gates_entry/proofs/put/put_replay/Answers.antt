@@ -1,5 +1,0 @@
-use Rattle.lib_laws.specs.Splice.{wrote_then}
-use Rattle.gates_entry.proofs.put.put_replay.Goals as goal
-
-pub returns : goal.returns
-returns c = wrote_then c.put_fixed-a.ensures c.put_be.ensures
