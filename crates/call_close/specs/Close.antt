@@ -12,7 +12,7 @@ use Rattle.rules.specs.Output.{pairs_bytes, output_record}
 use Rattle.rules.specs.Links.{retired, retiring}
 use Rattle.rules.specs.Settle.{with_links, with_legs, retireds, retirings, close_legs}
 use Rattle.lib_laws.specs.Splice.{splice, splice_none, splice_splice, Wrote}
-use Rattle.arrayvec.specs.ArrayVec.{ArrayVec, array_vec_len}
+use Rattle.lib_list.specs.ShortList.{ShortList, short_list_len}
 use Rattle.node_addr.specs.declared.Pair as pair
 use Rattle.links.specs.View.{view_closes}
 use Rattle.legs.specs.View.{no_leg, leg_count}
@@ -85,7 +85,7 @@ listed_none xs from = record { count = refl; end = sym (add-zero from); size = r
 
 module _ {xs : Bytes} {from : ℕ} {ps : List Pair} {ys : Bytes} {e n : ℕ} (a : Listed xs from ps ys e n) where
   -- more behind them
-  pub listed_more : {m : ℕ} {zs : Bytes} {r : ℕ} (c : ArrayVec pair.Pair) → Wrote ys e m (pairs_bytes (view_closes c)) zs r → Listed xs from (ps ++ view_closes c) zs r (n + array_vec_len c)
+  pub listed_more : {m : ℕ} {zs : Bytes} {r : ℕ} (c : ShortList pair.Pair) → Wrote ys e m (pairs_bytes (view_closes c)) zs r → Listed xs from (ps ++ view_closes c) zs r (n + short_list_len c)
   listed_more {m} {zs} {r} c w =
       let b : Bytes = pairs_bytes ps in
       let d : Bytes = pairs_bytes (view_closes c) in
@@ -160,8 +160,8 @@ module _ {x : Table} {xs : Bytes} {at n : ℕ} {t ys : Bytes} {e count i : ℕ} 
     count_fits k q = record { fits = omega (arith, a.most, a.few) }
 
     -- the link of leg i retires and closes c
-    module _ {l : ℕ} {t' : Bytes} (c : ArrayVec pair.Pair) {k : ℕ} (p : l ≡ (nth_leg (view_table t) i).link) (u : Told t' (with_links (retired l (view_table t).links) (view_table t)))
-        (v : view_closes c ≡ retiring l (view_table t).links) (j : k ≡ array_vec_len c) where
+    module _ {l : ℕ} {t' : Bytes} (c : ShortList pair.Pair) {k : ℕ} (p : l ≡ (nth_leg (view_table t) i).link) (u : Told t' (with_links (retired l (view_table t).links) (view_table t)))
+        (v : view_closes c ≡ retiring l (view_table t).links) (j : k ≡ short_list_len c) where
       links_next : drop i (leg_links x.legs) ≡ l ∷ drop (i + 1) (leg_links x.legs)
       links_next =
           drop-cons (leg_links x.legs) i no_leg.link (rw length-map (omega (arith, a.legs)))

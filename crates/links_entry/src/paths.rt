@@ -13,9 +13,9 @@ ghost use Rattle.links_entry.specs.Layout.{path_cap, path_width};
 
 use crate::layout::{PATH_CAP, PATH_COUNT, PATH_STATE, PATH_WIDTH};
 use crate::record::{Path, Proven};
-use arrayvec::ArrayVec;
 use lib_bytes::read::get_byte;
 use lib_bytes::write::put_byte;
+use lib_list::ShortList;
 use lib_region::remove_chunk;
 use node_addr::Pair;
 use node_addr::place::{eq_pair_at, eq_wire_pair, load_pair, put_pair};
@@ -180,12 +180,12 @@ fn load_path(s: &[u8], j: usize) -> Path
 }
 
 // The paths by value.
-pub(crate) fn load_paths(s: &[u8]) -> ArrayVec<Path, PATH_CAP>
+pub(crate) fn load_paths(s: &[u8]) -> ShortList<Path, PATH_CAP>
     requires { FitPaths s.now }
     ensures { map view_path result.items ≡ view_paths s.now }
 {
     let n = s[PATH_COUNT] as usize;
-    let mut out = ArrayVec::new();
+    let mut out = ShortList::new();
     for j in 0..n {
         out.push(load_path(s, j));
     }

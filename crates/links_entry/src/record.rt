@@ -2,7 +2,7 @@
 ghost use Rattle.links_entry.specs.View.{DecodesDir, DecodesProven};
 
 use crate::layout::PATH_CAP;
-use arrayvec::ArrayVec;
+use lib_list::ShortList;
 use node_addr::{LinkNo, NodeAddr, Pair};
 
 // Which end set the link up. In memory each variant of Dir and Proven is its number.
@@ -42,14 +42,14 @@ pub enum Holder {
     Peer(NodeAddr),
 }
 
-#[derive(Drop)]
+#[derive(Clone, Copy)]
 pub struct LinkRec {
     pub no: LinkNo,
     pub setup: Pair,
     pub dir: Dir,
     pub holder: Holder,
     pub released: bool,
-    pub paths: ArrayVec<Path, PATH_CAP>,
+    pub paths: ShortList<Path, PATH_CAP>,
 }
 
 impl TryFrom<u8> for Dir {

@@ -12,7 +12,7 @@ use Rattle.node_addr.specs.declared.Pair as pair
 use Rattle.node_addr.specs.View.{view_pair}
 use Rattle.output_field.specs.Part.{header, pair_length, frame_is, wrote_before}
 use Rattle.node_addr.specs.Layout.{pair_width}
-use Rattle.arrayvec.specs.ArrayVec.{ArrayVec, array_vec_len}
+use Rattle.lib_list.specs.ShortList.{ShortList, short_list_len}
 use Rattle.links.specs.View.{view_closes}
 
 -- ---- a row of pairs
@@ -41,10 +41,10 @@ pairs_most : (ps : List pair.Pair) → length (pairs_bytes (map view_pair ps)) �
 pairs_most [] = omega arith
 pairs_most (p ∷ ps) = omega (arith, length-append (pair_bytes (view_pair p)) (pairs_bytes (map view_pair ps)), pair_length p, p.addr.small, pairs_most ps)
 
-pub pairs_small : (c : ArrayVec pair.Pair) → length (pairs_bytes (view_closes c)) ≤ pair_width * array_vec_len c
+pub pairs_small : (c : ShortList pair.Pair) → length (pairs_bytes (view_closes c)) ≤ pair_width * short_list_len c
 pairs_small c = pairs_most c.items
 
-pub pairs_count : (c : ArrayVec pair.Pair) → length (view_closes c) ≡ array_vec_len c
+pub pairs_count : (c : ShortList pair.Pair) → length (view_closes c) ≡ short_list_len c
 pairs_count c = length-map c.items view_pair
 
 -- ---- the loop that puts the pairs ps, and stands at pair i, which is p: those before it are put

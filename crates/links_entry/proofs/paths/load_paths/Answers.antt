@@ -8,7 +8,7 @@ use native.Mathlib.Omega.{arith}
 use Rattle.links_entry.proofs.paths.load_paths.Goals as goal
 
 pub loop-j-init : goal.loop-j-init
-loop-j-init c = rw c.new-out.ensures (loading_start view_path _)
+loop-j-init c = rw c.new-out.ensures.items (loading_start view_path _)
 
 pub push-requires : goal.push-requires
 push-requires c = omega (arith, loading_count c.loop-j.invariant, c.requires.kept.small)
