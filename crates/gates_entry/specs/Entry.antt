@@ -14,7 +14,7 @@ use Rattle.lib_laws.specs.Part.{part_of, part_at}
 use Rattle.lib_laws.specs.Chunk.{chunks, joined}
 use Rattle.lib_laws.specs.Fields.{cuts, cuts_spelt, length_joined, sum}
 use Rattle.lib_laws.specs.Store.{Store, entries, entry_shows, entry_fits}
-use Rattle.arrayvec.specs.ArrayVec.{ArrayVec}
+use Rattle.lib_list.specs.ShortList.{ShortList}
 use Rattle.node_addr.specs.declared.Fixed.{Fixed}
 use Rattle.gates_types.specs.declared.Replay.{Replay}
 use Rattle.gates_types.specs.declared.Silence.{Silence}
@@ -53,10 +53,10 @@ row_few w cap s at r = rw (row_count (cap * w) s at) at r.kept.small
 abbrev pub replay_bytes : Replay → Bytes
 replay_bytes e = e.digest.0 ++ digits 8 e.seen
 
-unfoldable pub replays_bytes : ArrayVec Replay → Bytes
+unfoldable pub replays_bytes : ShortList Replay → Bytes
 replays_bytes r = row_bytes replay_bytes replay_width replay_cap r.items
 
-unfoldable pub digests_bytes : ArrayVec (Fixed 32) → Bytes
+unfoldable pub digests_bytes : ShortList (Fixed 32) → Bytes
 digests_bytes d = row_bytes view_digest digest_len digest_cap d.items
 
 pub replay_wide : (e : Replay) → FitReplay e → length (replay_bytes e) ≡ 40
@@ -69,7 +69,7 @@ replay_shows : (e : Replay) → FitReplay e → replay_of (replay_bytes e) ≡ v
 replay_shows e f = rw (take_at e.digest.0 (digits 8 e.seen) 32 f.digest, drop_at e.digest.0 (digits 8 e.seen) 32 f.digest) (
     rw (take_all 8 (digits 8 e.seen) (rw (length_digits 8 e.seen) (lit≤ tt)), more_digits 8 e.seen f.seen.fits))
 
-module _ (r : ArrayVec Replay) (f : FitReplays r) where
+module _ (r : ShortList Replay) (f : FitReplays r) where
   replays_size : length (replays_bytes r) ≡ replays_len
   unfolding replays_bytes
   replays_size = row_size view_replay replay_of replay_bytes replay_cap replay_width r.items f.small f.each replay_wide
@@ -82,7 +82,7 @@ module _ (r : ArrayVec Replay) (f : FitReplays r) where
   unfolding replays_bytes
   replays_show = row_shows view_replay replay_of replay_bytes replay_cap replay_width r.items f.small f.each replay_wide replay_shows
 
-module _ (d : ArrayVec (Fixed 32)) (f : FitDigests d) where
+module _ (d : ShortList (Fixed 32)) (f : FitDigests d) where
   digests_size : length (digests_bytes d) ≡ digests_len
   unfolding digests_bytes
   digests_size = row_size view_digest digest_of view_digest digest_cap digest_len d.items f.small f.each digest_wide

@@ -9,7 +9,7 @@ use Rattle.lib_laws.specs.Part.{part_at}
 use Rattle.lib_laws.specs.Chunk.{chunks, chunk_at, joined, length_chunks}
 use Rattle.lib_laws.specs.Fields.{cuts, sum}
 use Rattle.lib_laws.specs.Store.{Store, entries}
-use Rattle.arrayvec.specs.ArrayVec.{ArrayVec}
+use Rattle.lib_list.specs.ShortList.{ShortList}
 use Rattle.gates_types.specs.View.{Few}
 
 -- of a part nothing more is asked
@@ -167,18 +167,18 @@ module _ {A : Type 0} (enc : A → Bytes) (w : ℕ) (xs : List A) where
         rw (← z) (wrote_then (wrote_then y (rw k at t)) (rw k at u))
 
 -- ---- the loop that reads a row, and stands at i: dec makes an item of a part
-pub record Fetching {A : Type 0} (P : A → Type 0) (dec : Bytes → A) (w cap : ℕ) (c : Bytes) (i : ℕ) (v : ArrayVec A) : Type 0 where
+pub record Fetching {A : Type 0} (P : A → Type 0) (dec : Bytes → A) (w cap : ℕ) (c : Bytes) (i : ℕ) (v : ShortList A) : Type 0 where
   pub items : v.items ≡ map dec (take i (chunks w cap c))
   pub each : All P v.items
 
-pub fetching_start : {A : Type 0} (P : A → Type 0) (dec : Bytes → A) (w cap : ℕ) (c : Bytes) {v : ArrayVec A} → v.items ≡ [] → Fetching P dec w cap c 0 v
+pub fetching_start : {A : Type 0} (P : A → Type 0) (dec : Bytes → A) (w cap : ℕ) (c : Bytes) {v : ShortList A} → v.items ≡ [] → Fetching P dec w cap c 0 v
 fetching_start P dec w cap c e = record { items = e; each = rw e tt }
 
-module _ {A : Type 0} {P : A → Type 0} {dec : Bytes → A} {w cap : ℕ} {c : Bytes} {i : ℕ} {v : ArrayVec A} (a : Fetching P dec w cap c i v) where
+module _ {A : Type 0} {P : A → Type 0} {dec : Bytes → A} {w cap : ℕ} {c : Bytes} {i : ℕ} {v : ShortList A} (a : Fetching P dec w cap c i v) where
   pub fetching_length : i ≤ cap → length v.items ≡ i
   fetching_length h = ap length a.items ∙ length-map (take i (chunks w cap c)) dec ∙ length-take-le i (chunks w cap c) (rw length_chunks h)
 
-  pub fetching_turn : {x : A} {u : ArrayVec A} → i < cap → x ≡ dec (get_or (chunks w cap c) i []) → P x → u.items ≡ v.items ++ (x ∷ []) → Fetching P dec w cap c (i + 1) u
+  pub fetching_turn : {x : A} {u : ShortList A} → i < cap → x ≡ dec (get_or (chunks w cap c) i []) → P x → u.items ≡ v.items ++ (x ∷ []) → Fetching P dec w cap c (i + 1) u
   fetching_turn {x} h e px y = record {
     items = y ∙ rw (a.items, add-one, take-suc (chunks w cap c) i [] (rw length_chunks h), map-append, e);
     each = rw y (all_append P v.items (x ∷ []) a.each (px, tt));

@@ -10,11 +10,11 @@ ghost use Rattle.gates_entry.specs.Layout.{replay_width};
 ghost use Rattle.node_addr.specs.Layout.{digest_len};
 
 use crate::layout::{REPLAY_WIDTH, SEEN};
-use arrayvec::ArrayVec;
 use gates_types::Replay;
 use lib_bytes::layout::U64;
 use lib_bytes::read::get_8;
 use lib_bytes::write::{clear, put_be, put_byte};
+use lib_list::ShortList;
 use lib_region::count;
 use node_addr::Digest;
 use node_addr::layout::DIGEST_LEN;
@@ -89,7 +89,11 @@ impl Element for Digest {
 }
 
 // The elements, zeros past the last, and then how many there are.
-pub fn put_row<T: Element, const CAP: usize>(s: &mut [u8], at: usize, v: &ArrayVec<T, CAP>) -> usize
+pub fn put_row<T: Element, const CAP: usize>(
+    s: &mut [u8],
+    at: usize,
+    v: &ShortList<T, CAP>,
+) -> usize
     requires cap_bound { CAP ≤ 8 }
     requires row_in_bounds { at + (CAP * T.WIDTH + 1) ≤ length s.old }
     ensures { Wrote s.old at (CAP * T.WIDTH + 1) (row_bytes T.bytes T.WIDTH CAP v.now.items) s.new result }
@@ -104,14 +108,14 @@ pub fn put_row<T: Element, const CAP: usize>(s: &mut [u8], at: usize, v: &ArrayV
 }
 
 // The elements of a row that stands at a place.
-pub fn load_row<T: Element, const CAP: usize>(s: &[u8], at: usize) -> ArrayVec<T, CAP>
+pub fn load_row<T: Element, const CAP: usize>(s: &[u8], at: usize) -> ShortList<T, CAP>
     requires cap_bound { CAP ≤ 8 }
     requires row_in_bounds { at + (CAP * T.WIDTH + 1) ≤ length s.now }
     requires store { Store AnyBytes T.WIDTH CAP (take (CAP * T.WIDTH + 1) (drop at s.now)) }
     ensures fit { Few T.Fit result }
     ensures value { result.items ≡ entries T.of_bytes T.WIDTH CAP (take (CAP * T.WIDTH + 1) (drop at s.now)) }
 {
-    let mut out = ArrayVec::new();
+    let mut out = ShortList::new();
     for i in 0..count(s, at + CAP * T::WIDTH) {
         out.push(T::load(s, at + i * T::WIDTH));
     }

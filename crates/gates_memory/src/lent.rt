@@ -1,19 +1,17 @@
-// A memory lent to be changed: it is taken out, changed by value, and put back.
+// A memory lent to be changed.
 ghost use Rattle.std.specs.Prelude.{◌≡◌};
 ghost use Rattle.rules.specs.Gates as rule;
 ghost use Rattle.gates_types.specs.View.{view_memory, FitMemory, spanned};
 
 use crate::{cleared, pruned};
-use gates_types::{Memory, blank_memory};
-use std::mem;
+use gates_types::Memory;
 
 pub fn clear(m: &mut Memory)
     requires { FitMemory m.old }
     ensures fit_memory { FitMemory m.new }
     ensures m_after { view_memory m.new ≡ rule.clear (view_memory m.old) }
 {
-    let peer = m.peer;
-    *m = cleared(mem::replace(m, blank_memory(peer)));
+    *m = cleared(*m);
 }
 
 pub fn prune(m: &mut Memory, clock: u64, interval: u64)
@@ -21,6 +19,5 @@ pub fn prune(m: &mut Memory, clock: u64, interval: u64)
     ensures fit_memory { FitMemory m.new }
     ensures m_after { view_memory m.new ≡ rule.prune (spanned interval) clock (view_memory m.old) }
 {
-    let peer = m.peer;
-    *m = pruned(mem::replace(m, blank_memory(peer)), clock, interval);
+    *m = pruned(*m, clock, interval);
 }

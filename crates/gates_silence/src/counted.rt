@@ -2,7 +2,7 @@
 ghost use Rattle.std.specs.Prelude.{◌≡◌, ◌≤◌, ◌<◌, ◌∷◌, ◌++◌, [], eqb, length, if◌then◌else◌};
 ghost use mathlib.Core.List.{tail};
 ghost use Rattle.rules.specs.Base.{same, any};
-ghost use Rattle.arrayvec.specs.ArrayVec.{array_vec_len};
+ghost use Rattle.lib_list.specs.ShortList.{short_list_len};
 ghost use Rattle.gates_types.specs.View.{view_digests, FitDigests};
 
 use gates_types::Digests;
@@ -18,7 +18,7 @@ pub fn counted_in(r: &Digests, digest: Digest) -> bool
 // One more; at the limit the oldest gives way.
 pub fn counted_with(mut r: Digests, digest: Digest, limit: usize) -> Digests
     requires fit_digests { FitDigests r }
-    requires len_le_limit { array_vec_len r ≤ limit }
+    requires len_le_limit { short_list_len r ≤ limit }
     requires limit_nonzero { 0 < limit }
     requires limit_bound { limit ≤ 8 }
     ensures fit_digests_2 { FitDigests result }

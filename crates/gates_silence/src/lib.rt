@@ -8,7 +8,7 @@ ghost use Rattle.rules.specs.Base.{option, any, same};
 ghost use Rattle.rules.specs.Bounds.{IfAny};
 ghost use Rattle.rules.specs.Gates as rule;
 ghost use Rattle.params.specs.View.{view_params};
-ghost use Rattle.arrayvec.specs.ArrayVec.{array_vec_len};
+ghost use Rattle.lib_list.specs.ShortList.{short_list_len};
 ghost use Rattle.gates_types.specs.View.{view_digest, view_digests, view_silence, FitDigests, FitSilence, FitParams};
 ghost use Rattle.gates_silence.specs.Silences.{new_silence, ended_in};
 
@@ -22,7 +22,7 @@ use params::time::{backoff, deadline, one_more};
 fn new_silence(epoch: u64, clock: u64) -> Silence
     ensures fit_silence { FitSilence result }
     ensures result_value { view_silence result ≡ new_silence epoch clock }
-    ensures len_value { array_vec_len result.counted ≡ 0 }
+    ensures len_value { short_list_len result.counted ≡ 0 }
 {
     Silence {
         epoch: Some(epoch),
@@ -46,7 +46,7 @@ pub fn counting(s: Option<Silence>, epoch: u64, clock: u64, c: Params) -> Silenc
     requires { IfAny FitSilence s }
     ensures fit_silence { FitSilence result }
     ensures result_value { view_silence result ≡ rule.counting (view_params c) clock (Some epoch) (option_map view_silence s) }
-    ensures len_le_len { array_vec_len result.counted ≤ option s 0 (λ x. array_vec_len x.counted) }
+    ensures len_le_len { short_list_len result.counted ≤ option s 0 (λ x. short_list_len x.counted) }
 {
     match s {
         Some(mut r) if !expired(&r, clock, c) && r.epoch.unwrap_or(epoch) == epoch => {
@@ -69,7 +69,7 @@ fn already(r: &Digests, setup: Option<Digest>) -> bool
 fn counted_too(r: Digests, setup: Option<Digest>, c: Params) -> Digests
     requires fit_digests { FitDigests r }
     requires fit_params { FitParams c }
-    requires len_le_counted { array_vec_len r ≤ c.counted }
+    requires len_le_counted { short_list_len r ≤ c.counted }
     ensures fit_digests_2 { FitDigests result }
     ensures result_value { view_digests result ≡ rule.counted_with (view_params c) (option_map view_digest setup) (view_digests r) }
 {
@@ -84,7 +84,7 @@ fn counted_too(r: Digests, setup: Option<Digest>, c: Params) -> Digests
 fn silenced(s: Silence, setup: Option<Digest>, clock: u64, c: Params) -> Silence
     requires fit_silence { FitSilence s }
     requires fit_params { FitParams c }
-    requires len_le_counted { array_vec_len s.counted ≤ c.counted }
+    requires len_le_counted { short_list_len s.counted ≤ c.counted }
     ensures fit_silence_2 { FitSilence result }
     ensures result_value { view_silence result ≡ rule.silenced (view_params c) clock (option_map view_digest setup) (view_silence s) }
 {
@@ -107,7 +107,7 @@ fn silenced(s: Silence, setup: Option<Digest>, clock: u64, c: Params) -> Silence
 pub fn ended_in(s: Silence, setup: Option<Digest>, clock: u64, c: Params) -> Silence
     requires fit_silence { FitSilence s }
     requires fit_params { FitParams c }
-    requires len_le_counted { array_vec_len s.counted ≤ c.counted }
+    requires len_le_counted { short_list_len s.counted ≤ c.counted }
     ensures fit_silence_2 { FitSilence result }
     ensures result_value { view_silence result ≡ ended_in (view_params c) clock (option_map view_digest setup) (view_silence s) }
 {

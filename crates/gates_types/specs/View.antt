@@ -1,12 +1,12 @@
 -- What a memory by value shows, when it is well formed, its blank values, and the meaning of each case.
-use Rattle.std.specs.Prelude.{◌≡◌, List, [], map, ℕ, ◌≤◌, length, option_map, None, Ok, Err, Option, Result, Some}
+use Rattle.std.specs.Prelude.{◌≡◌, List, [], map, ℕ, ◌≤◌, length, replicate, option_map, None, Ok, Err, Option, Result, Some}
 use Rattle.std.proofs.Common.{Fits}
 use Rattle.std.specs.Int.{w32, w64}
 use Rattle.rules.specs.Base.{Bytes, All}
 use Rattle.rules.specs.Data as rule
 use Rattle.rules.specs.Time as time
 use Rattle.rules.specs.Bounds.{IfAny}
-use Rattle.arrayvec.specs.ArrayVec.{ArrayVec}
+use Rattle.lib_list.specs.ShortList.{ShortList}
 use Rattle.node_addr.specs.declared.Fixed.{Fixed}
 use Rattle.params.specs.declared.Params.{Params}
 use Rattle.gates_types.specs.declared.Replay.{Replay}
@@ -24,13 +24,13 @@ use Rattle.gates_types.specs.declared.Denial.TheVariants as denial
 abbrev pub view_replay : Replay → rule.Replay
 view_replay r = record { ephemeral = r.digest.0; seen = r.seen }
 
-abbrev pub view_replays : ArrayVec Replay → List rule.Replay
+abbrev pub view_replays : ShortList Replay → List rule.Replay
 view_replays r = map view_replay r.items
 
 abbrev pub view_digest : Fixed 32 → Bytes
 view_digest d = d.0
 
-abbrev pub view_digests : ArrayVec (Fixed 32) → List Bytes
+abbrev pub view_digests : ShortList (Fixed 32) → List Bytes
 view_digests d = map view_digest d.items
 
 abbrev pub view_silence : Silence → rule.Silence
@@ -51,8 +51,11 @@ view_memory m = record {
 }
 
 -- ---- blank values
-abbrev pub blank_replays : ArrayVec Replay
-blank_replays = record { items = [] }
+abbrev pub blank_replay : Replay
+blank_replay = record { digest = record { 0 = replicate 32 0 }; seen = 0 }
+
+abbrev pub blank_replays : ShortList Replay
+blank_replays = record { items = []; spare = replicate 8 blank_replay }
 
 abbrev pub blank_memory : Fixed 16 → Memory
 blank_memory p = record { peer = p; stamp = None; replays = blank_replays; silence = None }
@@ -66,14 +69,14 @@ pub record FitDigest (d : Fixed 32) : Type 0 where
   pub size : length d.0 ≡ 32
 
 -- at most eight, each of them well formed
-pub record Few {A : Type 0} (P : A → Type 0) (v : ArrayVec A) : Type 0 where
+pub record Few {A : Type 0} (P : A → Type 0) (v : ShortList A) : Type 0 where
   pub small : length v.items ≤ 8
   pub each : All P v.items
 
-abbrev pub FitReplays : ArrayVec Replay → Type 0
+abbrev pub FitReplays : ShortList Replay → Type 0
 FitReplays r = Few FitReplay r
 
-abbrev pub FitDigests : ArrayVec (Fixed 32) → Type 0
+abbrev pub FitDigests : ShortList (Fixed 32) → Type 0
 FitDigests d = Few FitDigest d
 
 -- each number is one of its type

@@ -4,7 +4,7 @@
 ghost use Rattle.std.specs.Prelude.{◌≡◌};
 ghost use Rattle.gates_types.specs.View.{blank_memory};
 
-use arrayvec::ArrayVec;
+use lib_list::ShortList;
 use node_addr::{Digest, NodeAddr};
 
 pub const REPLAY_CAP: usize = 8;
@@ -12,19 +12,33 @@ pub const REPLAY_CAP: usize = 8;
 pub const DIGEST_CAP: usize = 8;
 
 // A digest that promoted the peer unheard, and when.
-#[derive(Clone, Copy, Default)]
+#[derive(Clone, Copy)]
 pub struct Replay {
     pub digest: Digest,
     pub seen: u64,
 }
 
-// The oldest first.
-pub type Replays = ArrayVec<Replay, REPLAY_CAP>;
+// Zeros, which stand in the places past the replays: by hand for its clause, which a derived Default does not state.
+impl Default for Replay {
+    ghost use Rattle.gates_types.specs.View.{blank_replay};
 
-pub type Digests = ArrayVec<Digest, DIGEST_CAP>;
+    ghost is_default = { λ r. r ≡ blank_replay };
+
+    fn default() -> Self {
+        Replay {
+            digest: Digest::default(),
+            seen: 0,
+        }
+    }
+}
+
+// The oldest first.
+pub type Replays = ShortList<Replay, REPLAY_CAP>;
+
+pub type Digests = ShortList<Digest, DIGEST_CAP>;
 
 // Sessions in a row that ended unheard.
-#[derive(Drop)]
+#[derive(Clone, Copy)]
 pub struct Silence {
     pub epoch: Option<u64>,
     pub count: u32,
@@ -33,7 +47,7 @@ pub struct Silence {
     pub counted: Digests,
 }
 
-#[derive(Drop)]
+#[derive(Clone, Copy)]
 pub struct Memory {
     pub peer: NodeAddr,
     pub stamp: Option<u64>,

@@ -7,7 +7,7 @@ use Rattle.lib_laws.specs.Both.{both}
 use Rattle.gates_entry.proofs.row.load_row.Goals as goal
 
 pub loop-i-init : goal.loop-i-init
-loop-i-init g c = fetching_start g.T.Element.Fit g.T.Element.of_bytes g.T.Element.WIDTH g.row.CAP _ c.new-out.ensures
+loop-i-init g c = fetching_start g.T.Element.Fit g.T.Element.of_bytes g.T.Element.WIDTH g.row.CAP _ c.new-out.ensures.items
 
 pub loop-i-preserved : goal.loop-i-preserved
 loop-i-preserved g c =
