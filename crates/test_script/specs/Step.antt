@@ -1,5 +1,5 @@
 -- The steps of a script: a word, of which the first byte counts, and up to five decimal numbers, each behind one space; what follows them is passed over.
-use Rattle.std.specs.Prelude.{◌≡◌, ℕ, zero, suc, ◌+◌, ◌-◌, ◌*◌, ◌%◌, ◌^◌, ◌<◌, ◌≤◌, Bool, true, false, ◌&&◌, ltb, [], ◌∷◌, length, drop, ◌==◌, nat_le, nat_lt, slice_index, if◌then◌else◌, fold, take, take_while}
+use Rattle.std.specs.Prelude.{◌≡◌, refl, ℕ, zero, suc, ◌+◌, ◌-◌, ◌*◌, ◌%◌, ◌^◌, ◌<◌, ◌≤◌, Bool, true, false, ◌&&◌, ltb, [], ◌∷◌, length, drop, ◌==◌, nat_le, nat_lt, slice_index, if◌then◌else◌, fold, take, take_while}
 use Rattle.std.proofs.Common.{sym, ap, ◌∙◌, add-one, arith, take_all}
 use Rattle.std.proofs.Math.Seq.{drop-cons, drop-length}
 use Rattle.std.proofs.lemmas.List.{length-drop}
@@ -27,6 +27,9 @@ run test s = length (take_while test s)
 -- a number, and how many bytes it is
 abbrev pub Number : Type 0
 Number = ℕ × ℕ
+
+abbrev pub number_there : Bytes → Number
+number_there s = (numeral s, run digit s)
 
 -- the number behind a space, 0 where there is none
 unfoldable pub argument : Bytes → Number
@@ -150,6 +153,42 @@ module _ (s : Bytes) where
   pub argument_end : (i : ℕ) → i ≡ length s → Reads argument s i 0 i
   unfolding argument
   argument_end i e = record { value = rw (nothing_left e); is = rw (nothing_left e) (omega arith); room = omega (arith, e) }
+
+-- a loop has come from a place to i
+pub record Coming (test : ℕ → Bool) (s : Bytes) (at i : ℕ) : Type 0 where
+  pub room : i ≤ length s
+  pub is : i + run test (drop i s) ≡ at + run test (drop at s)
+
+pub coming_start : (test : ℕ → Bool) (s : Bytes) {at : ℕ} → at ≤ length s → Coming test s at at
+coming_start test s h = record { room = h; is = refl }
+
+module _ {test : ℕ → Bool} {s : Bytes} {at i : ℕ} (a : Coming test s at i) where
+  pub coming_more : i < length s → test (slice_index s i) ≡ true → Coming test s at (i + 1)
+  coming_more h e = record { room = omega (arith, h); is = sym (run_more s test i h e) ∙ a.is }
+
+  pub coming_stop : i < length s → test (slice_index s i) ≡ false → Runs test s at i
+  coming_stop h e = record { is = omega (arith, run_stop s test i h e, a.is); room = a.room }
+
+  pub coming_end : length s ≤ i → Runs test s at i
+  coming_end h = record { is = omega (arith, run_end s test i (omega (arith, h, a.room)), a.is); room = a.room }
+
+-- the loop over digits has come to i with the number v
+pub record Reading (s : Bytes) (at v i : ℕ) : Type 0 where
+  pub came : Coming digit s at i
+  pub value : fold with_digit v (take_while digit (drop i s)) ≡ numeral (drop at s)
+
+pub reading_start : (s : Bytes) {at : ℕ} → at ≤ length s → Reading s at 0 at
+reading_start s h = record { came = coming_start digit s h; value = refl }
+
+module _ {s : Bytes} {at v i : ℕ} (a : Reading s at v i) where
+  pub reading_more : {w : ℕ} → i < length s → digit (slice_index s i) ≡ true → w ≡ with_digit v (slice_index s i) → Reading s at w (i + 1)
+  reading_more h e f = record { came = coming_more a.came h e; value = ap (λ (x : ℕ). fold with_digit x (take_while digit (drop (i + 1) s))) f ∙ sym (numeral_more s v i h e) ∙ a.value }
+
+  pub reading_stop : i < length s → digit (slice_index s i) ≡ false → Reads number_there s at v i
+  reading_stop h e = let r = coming_stop a.came h e in record { value = sym (numeral_stop s v i h e) ∙ a.value; is = r.is; room = r.room }
+
+  pub reading_end : length s ≤ i → Reads number_there s at v i
+  reading_end h = let r = coming_end a.came h in record { value = sym (numeral_end s v i (omega (arith, h, a.came.room))) ∙ a.value; is = r.is; room = r.room }
 
 pub word_more : (s : Bytes) (i : ℕ) {at r : ℕ} → at ≡ word_start s i → r ≡ next_word s at → r ≡ word_start s (i + 1)
 unfolding word_start
