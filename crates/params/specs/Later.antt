@@ -1,11 +1,11 @@
 -- The time arithmetic of the code against the rules: the shift, the product that is cut, the sum that may not fit.
-use Rattle.std.specs.Prelude.{◌≡◌, ℕ, ◌-◌, ◌*◌, ◌%◌, ◌^◌, ◌≤◌, ◌<◌, min, ltb, if◌then◌else◌, Option, None, Some, SomeIff, unwrap_or}
+use Rattle.std.specs.Prelude.{◌≡◌, ℕ, ◌+◌, ◌-◌, ◌*◌, ◌%◌, ◌^◌, ◌≤◌, ◌<◌, min, ltb, if◌then◌else◌}
 use Rattle.std.proofs.Common.{sym, ap, ◌∙◌, arith, rules, lt-ltb, le-ltb, lit<, pow_pos, Fits}
 use Rattle.std.specs.Int.{w64}
 use Rattle.rules.specs.Base.{option}
 use Rattle.rules.specs.Std.{from_nanos, duration_max, checked_shl, u32_max}
 use Rattle.rules.specs.Time as rule
-use Rattle.rules.proofs.Time.{ceiling_nanos, shl_one, shifted, backoff_nanos, resend_nanos, younger_nanos}
+use Rattle.rules.proofs.Time.{ceiling_nanos, shl_one, shifted, backoff_nanos, deadline_nanos, resend_nanos, younger_nanos}
 
 -- ---- the factor
 -- 2 ^ e below 32, and from there on the greatest of 32 bits
@@ -35,6 +35,14 @@ pub backoff_is : (e f base cap : ℕ) → f ≡ option (checked_shl 1 e) u32_max
 backoff_is e f base cap p w =
     let m : min (min (base * f) 18446744073709551615) cap ≡ min (base * f) cap = omega (arith, w.fits) in
     ap from_nanos m ∙ rw (p ∙ shifted e) (sym (backoff_nanos e base cap w.fits))
+
+-- ---- the sum, of a step of at most the ceiling
+module _ (now d step : ℕ) (e : step ≡ min d ceiling_nanos) where
+  pub sum_last : 18446744073709551615 - now < step → 18446744073709551615 ≡ rule.deadline now (from_nanos d)
+  sum_last h = omega (arith, deadline_nanos now d)
+
+  pub sum_whole : Fits w64 now → step ≤ 18446744073709551615 - now → now + step ≡ rule.deadline now (from_nanos d)
+  sum_whole w h = omega (arith, w.fits, deadline_nanos now d)
 
 -- ---- the resend
 pub resend_is : (now e base step r : ℕ) → from_nanos step ≡ rule.backoff e (from_nanos base) (from_nanos 3153600000000000000) → r ≡ rule.deadline now (from_nanos step)

@@ -1,9 +1,9 @@
 -- The steps of a script: a word, of which the first byte counts, and up to five decimal numbers, each behind one space; what follows them is passed over.
-use Rattle.std.specs.Prelude.{◌≡◌, ℕ, zero, suc, ◌+◌, ◌-◌, ◌*◌, ◌%◌, ◌^◌, ◌<◌, ◌≤◌, Bool, false, ◌&&◌, ltb, [], ◌∷◌, length, drop, ◌==◌, nat_le, nat_lt, slice_index, if◌then◌else◌, fold, take, take_while}
+use Rattle.std.specs.Prelude.{◌≡◌, refl, ℕ, zero, suc, ◌+◌, ◌-◌, ◌*◌, ◌%◌, ◌^◌, ◌<◌, ◌≤◌, Bool, true, false, ◌&&◌, ltb, [], ◌∷◌, length, drop, ◌==◌, nat_le, nat_lt, slice_index, if◌then◌else◌, fold, take, take_while}
 use Rattle.std.proofs.Common.{sym, ap, ◌∙◌, add-one, arith, take_all}
 use Rattle.std.proofs.Math.Seq.{drop-cons, drop-length}
 use Rattle.std.proofs.lemmas.List.{length-drop}
-use Rattle.std.proofs.lemmas.List.Sums.{prefix_len-le-length}
+use Rattle.std.proofs.lemmas.List.Sums.{prefix_len-le-length, take_while-cons}
 use Rattle.std.proofs.lemmas.List.Folds.{length-prefix_len}
 use Rattle.rules.specs.Base.{Bytes}
 
@@ -27,6 +27,9 @@ run test s = length (take_while test s)
 -- a number, and how many bytes it is
 abbrev pub Number : Type 0
 Number = ℕ × ℕ
+
+abbrev pub number_there : Bytes → Number
+number_there s = (numeral s, run digit s)
 
 -- the number behind a space, 0 where there is none
 unfoldable pub argument : Bytes → Number
@@ -103,6 +106,37 @@ counted {test} {s} {at} h e =
     record { is = ap (λ (k : ℕ). at + k) f; room = omega (arith, f, run_at_most test (drop at s), length-drop at s) }
 
 module _ (s : Bytes) where
+  nothing_left : {i : ℕ} → i ≡ length s → drop i s ≡ []
+  nothing_left e = ap (λ (k : ℕ). drop k s) e ∙ drop-length s
+
+  -- the bytes from a place on that pass a test: there is one more, and none
+  front_more : (test : ℕ → Bool) (i : ℕ) → i < length s → test (slice_index s i) ≡ true → take_while test (drop i s) ≡ slice_index s i ∷ take_while test (drop (i + 1) s)
+  front_more test i h e = rw (add-one i, drop-cons s i 0 h) (take_while-cons test (slice_index s i) (drop (suc i) s) ∙ rw e)
+
+  front_stop : (test : ℕ → Bool) (i : ℕ) → i < length s → test (slice_index s i) ≡ false → take_while test (drop i s) ≡ []
+  front_stop test i h e = rw (drop-cons s i 0 h) (take_while-cons test (slice_index s i) (drop (suc i) s) ∙ rw e)
+
+  -- at a byte that passes, at one that does not, and at the end
+  pub run_more : (test : ℕ → Bool) (i : ℕ) → i < length s → test (slice_index s i) ≡ true → i + run test (drop i s) ≡ i + 1 + run test (drop (i + 1) s)
+  run_more test i h e = ap (λ (xs : Bytes). i + length xs) (front_more test i h e) ∙ omega arith
+
+  pub run_stop : (test : ℕ → Bool) (i : ℕ) → i < length s → test (slice_index s i) ≡ false → run test (drop i s) ≡ 0
+  run_stop test i h e = ap (λ (xs : Bytes). length xs) (front_stop test i h e)
+
+  pub run_end : (test : ℕ → Bool) (i : ℕ) → i ≡ length s → run test (drop i s) ≡ 0
+  run_end test i h = rw (nothing_left h)
+
+  -- and of the number v with the digits from there on behind it, which is `numeral` where v is 0
+  pub numeral_more : (v i : ℕ) → i < length s → digit (slice_index s i) ≡ true
+      → fold with_digit v (take_while digit (drop i s)) ≡ fold with_digit (with_digit v (slice_index s i)) (take_while digit (drop (i + 1) s))
+  numeral_more v i h e = ap (λ (xs : Bytes). fold with_digit v xs) (front_more digit i h e)
+
+  pub numeral_stop : (v i : ℕ) → i < length s → digit (slice_index s i) ≡ false → fold with_digit v (take_while digit (drop i s)) ≡ v
+  numeral_stop v i h e = ap (λ (xs : Bytes). fold with_digit v xs) (front_stop digit i h e)
+
+  pub numeral_end : (v i : ℕ) → i ≡ length s → fold with_digit v (take_while digit (drop i s)) ≡ v
+  numeral_end v i h = rw (nothing_left h)
+
   -- at a space, at another byte, and at the end
   pub argument_space : {i v n : ℕ} → i < length s → slice_index s i ≡ 32 → v ≡ numeral (take (length s - (i + 1)) (drop (i + 1) s)) → n ≡ run digit (take (length s - (i + 1)) (drop (i + 1) s))
       → Reads argument s i v (i + 1 + n)
@@ -119,9 +153,42 @@ module _ (s : Bytes) where
   pub argument_end : (i : ℕ) → i ≡ length s → Reads argument s i 0 i
   unfolding argument
   argument_end i e = record { value = rw (nothing_left e); is = rw (nothing_left e) (omega arith); room = omega (arith, e) }
-    where
-      nothing_left : {i : ℕ} → i ≡ length s → drop i s ≡ []
-      nothing_left e = ap (λ (k : ℕ). drop k s) e ∙ drop-length s
+
+-- a loop has come from a place to i
+pub record Coming (test : ℕ → Bool) (s : Bytes) (at i : ℕ) : Type 0 where
+  pub room : i ≤ length s
+  pub is : i + run test (drop i s) ≡ at + run test (drop at s)
+
+pub coming_start : (test : ℕ → Bool) (s : Bytes) {at : ℕ} → at ≤ length s → Coming test s at at
+coming_start test s h = record { room = h; is = refl }
+
+module _ {test : ℕ → Bool} {s : Bytes} {at i : ℕ} (a : Coming test s at i) where
+  pub coming_more : i < length s → test (slice_index s i) ≡ true → Coming test s at (i + 1)
+  coming_more h e = record { room = omega (arith, h); is = sym (run_more s test i h e) ∙ a.is }
+
+  pub coming_stop : i < length s → test (slice_index s i) ≡ false → Runs test s at i
+  coming_stop h e = record { is = omega (arith, run_stop s test i h e, a.is); room = a.room }
+
+  pub coming_end : length s ≤ i → Runs test s at i
+  coming_end h = record { is = omega (arith, run_end s test i (omega (arith, h, a.room)), a.is); room = a.room }
+
+-- the loop over digits has come to i with the number v
+pub record Reading (s : Bytes) (at v i : ℕ) : Type 0 where
+  pub came : Coming digit s at i
+  pub value : fold with_digit v (take_while digit (drop i s)) ≡ numeral (drop at s)
+
+pub reading_start : (s : Bytes) {at : ℕ} → at ≤ length s → Reading s at 0 at
+reading_start s h = record { came = coming_start digit s h; value = refl }
+
+module _ {s : Bytes} {at v i : ℕ} (a : Reading s at v i) where
+  pub reading_more : {w : ℕ} → i < length s → digit (slice_index s i) ≡ true → w ≡ with_digit v (slice_index s i) → Reading s at w (i + 1)
+  reading_more h e f = record { came = coming_more a.came h e; value = ap (λ (x : ℕ). fold with_digit x (take_while digit (drop (i + 1) s))) f ∙ sym (numeral_more s v i h e) ∙ a.value }
+
+  pub reading_stop : i < length s → digit (slice_index s i) ≡ false → Reads number_there s at v i
+  reading_stop h e = let r = coming_stop a.came h e in record { value = sym (numeral_stop s v i h e) ∙ a.value; is = r.is; room = r.room }
+
+  pub reading_end : length s ≤ i → Reads number_there s at v i
+  reading_end h = let r = coming_end a.came h in record { value = sym (numeral_end s v i (omega (arith, h, a.came.room))) ∙ a.value; is = r.is; room = r.room }
 
 pub word_more : (s : Bytes) (i : ℕ) {at r : ℕ} → at ≡ word_start s i → r ≡ next_word s at → r ≡ word_start s (i + 1)
 unfolding word_start
