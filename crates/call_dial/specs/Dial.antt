@@ -15,7 +15,7 @@ use Rattle.output_record.specs.Write.{puts_one}
 use Rattle.table_layout.specs.View.{Told}
 use Rattle.table_layout.proofs.Told.{told_is}
 use Rattle.call_contract.specs.Did.{Space, Did, space_head}
-use Rattle.call_limits.specs.Enter.{Enters, entering_passed, entering_refused, numbering_passed, numbering_refused}
+use Rattle.call_limits.specs.Enter.{Enters, entering_passed, entering_refused, entering_error, numbering_passed, numbering_refused}
 
 module _ (now : ℕ) (p : Bytes) (to : Pair) (m : Bytes) (l : ℕ) (x : Table) where
   -- ---- what it opens
@@ -44,9 +44,13 @@ module _ (now : ℕ) (p : Bytes) (to : Pair) (m : Bytes) (l : ℕ) (x : Table) w
     dial_exhausted h = numbering_refused x e (entering p x (ok (dial now p to m l x))) h
 
     module _ (h : b ≡ false) where
-      pub dial_refused : (r : Refusal) → Enters (code r) p x → step now (Call.Dial p to m l) x ≡ refuse (code r) x
+      pub dial_refused : {n : ℕ} → Enters n p x → (n ≡ 0 → ⊥) → step now (Call.Dial p to m l) x ≡ refuse n x
       unfolding step
-      dial_refused r a = numbering_passed x e (entering p x (ok (dial now p to m l x))) h ∙ entering_refused r a (ok (dial now p to m l x))
+      dial_refused a f = numbering_passed x e (entering p x (ok (dial now p to m l x))) h ∙ entering_refused a f (ok (dial now p to m l x))
+
+      pub dial_error : (r : Refusal) → Enters (code r) p x → step now (Call.Dial p to m l) x ≡ refuse (code r) x
+      unfolding step
+      dial_error r a = numbering_passed x e (entering p x (ok (dial now p to m l x))) h ∙ entering_error r a (ok (dial now p to m l x))
 
       pub dial_passed : Enters 0 p x → step now (Call.Dial p to m l) x ≡ ok (dial now p to m l x)
       unfolding step

@@ -2,7 +2,7 @@
 use Rattle.std.specs.Prelude.{◌≡◌, Bool, true, false, not, ◌&&◌, List, ℕ, ◌+◌, ◌-◌, ◌^◌, ◌≤◌, ◌<◌, eqb, leb, ltb, length, if◌then◌else◌}
 use Rattle.std.proofs.Math.Path.{refl, sym}
 use Rattle.std.proofs.Common.{ap, ◌∙◌, arith}
-use borrow.Author.Tests.{eqb-false, le-leb, lt-leb, ltb-true}
+use borrow.Author.Tests.{ne_eqb, eqb-false, le-leb, lt-leb, ltb-true}
 use Rattle.rules.specs.Base.{Bytes, same, any}
 use Rattle.rules.specs.Data.{LinkRec, Table, Result}
 use Rattle.rules.specs.Settle.{refuse, places, numbering}
@@ -27,14 +27,18 @@ module _ {p : Bytes} {x : Table} where
   pub entering_passed : Enters 0 p x → (d : Result) → rule.entering p x d ≡ d
   entering_passed e d = e.is d
 
-  pub entering_refused : (r : Refusal) → Enters (code r) p x → (d : Result) → rule.entering p x d ≡ refuse (code r) x
-  entering_refused Settings e d = e.is d
-  entering_refused Buffer e d = e.is d
-  entering_refused Record e d = e.is d
-  entering_refused Numbers e d = e.is d
-  entering_refused Links e d = e.is d
-  entering_refused Names e d = e.is d
-  entering_refused Paths e d = e.is d
+  pub entering_refused : {n : ℕ} → Enters n p x → (n ≡ 0 → ⊥) → (d : Result) → rule.entering p x d ≡ refuse n x
+  entering_refused {n} e h d = e.is d ∙ ap (λ (b : Bool). if b then d else refuse n x) (ne_eqb n 0 h)
+
+  -- the same of a refusal, whose number is not 0
+  pub entering_error : (r : Refusal) → Enters (code r) p x → (d : Result) → rule.entering p x d ≡ refuse (code r) x
+  entering_error Settings e d = e.is d
+  entering_error Buffer e d = e.is d
+  entering_error Record e d = e.is d
+  entering_error Numbers e d = e.is d
+  entering_error Links e d = e.is d
+  entering_error Names e d = e.is d
+  entering_error Paths e d = e.is d
 
 module _ (x : Table) {b : Bool} (e : b ≡ eqb x.next (2 ^ 64 - 1)) where
   pub numbering_refused : (d : Result) → b ≡ true → numbering x d ≡ refuse 4 x

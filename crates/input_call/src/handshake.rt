@@ -72,6 +72,7 @@ pub fn arrived_fields(s: &[u8], at: usize) -> Option<ArrivedFields>
 }
 
 // What msg1 and replacement share: peer, pair, message, digest, epoch, msg2, lease.
+#[inline(always)]
 pub fn next_hello(cursor: &mut Cursor) -> Option<Hello>
     ensures took { Took hello cursor.old (option_map (hello_of cursor.old.rec.now) result) cursor.new }
     ensures fit_hello { IfSome result (λ h. FitHello cursor.old.rec.now h) }

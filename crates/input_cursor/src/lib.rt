@@ -145,7 +145,8 @@ impl<'a> Cursor<'a> {
         Some(load_wire_pair(&self.rec[at..], 0))
     }
 
-    // A message, which stays where it stands: a length of at most 128, and so many bytes.
+    // A message, which stays where it stands: a length of at most 128, and so many bytes. Inlined, so that the place is no memory; as it is in `next_hello`.
+    #[inline(always)]
     pub fn span(&mut self) -> Option<Span>
         ensures took { Took message self.old (option_map (span_of self.old.rec.now) result) self.new }
         ensures fit_span { IfSome result (λ m. FitSpan self.old.rec.now m) }

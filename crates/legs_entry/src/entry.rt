@@ -13,9 +13,10 @@ use lib_bytes::write::{clear, put_be};
 use node_addr::layout::MESSAGE_WIDTH;
 use node_addr::place::{put_fixed, put_message, put_optional};
 
-fn put_times(s: &mut [u8], at: usize, l: Leg) -> usize
+// These are lent the leg and its answer, of some 370 bytes, which by value would be copied for each.
+fn put_times(s: &mut [u8], at: usize, l: &Leg) -> usize
     requires { at + 33 ≤ length s.old }
-    ensures { Wrote s.old at 33 (time_bytes l) s.new result }
+    ensures { Wrote s.old at 33 (time_bytes l.now) s.new result }
 {
     let a = put_be(s, at, l.link.0, U64);
     let b = put_be(s, a, l.deadline, U64);
@@ -25,9 +26,9 @@ fn put_times(s: &mut [u8], at: usize, l: Leg) -> usize
 }
 
 // What stands before msg1 of an answer; zeros for a dial.
-fn put_answer(s: &mut [u8], at: usize, o: Option<Answer>) -> usize
+fn put_answer(s: &mut [u8], at: usize, o: &Option<Answer>) -> usize
     requires { at + 42 ≤ length s.old }
-    ensures { Wrote s.old at 42 (answer_bytes o) s.new result }
+    ensures { Wrote s.old at 42 (answer_bytes o.now) s.new result }
 {
     match o {
         Some(x) => {
@@ -40,19 +41,19 @@ fn put_answer(s: &mut [u8], at: usize, o: Option<Answer>) -> usize
     }
 }
 
-fn put_ends(s: &mut [u8], at: usize, l: Leg) -> usize
+fn put_ends(s: &mut [u8], at: usize, l: &Leg) -> usize
     requires { at + 60 ≤ length s.old }
-    ensures { Wrote s.old at 60 (end_bytes l) s.new result }
+    ensures { Wrote s.old at 60 (end_bytes l.now) s.new result }
 {
     let a = put_flag(s, at, l.answer.is_some());
     let b = put_optional(s, a, l.peer);
-    put_answer(s, b, l.answer)
+    put_answer(s, b, &l.answer)
 }
 
 // Zeros for a dial.
-fn put_msg2(s: &mut [u8], at: usize, o: Option<Answer>) -> usize
+fn put_msg2(s: &mut [u8], at: usize, o: &Option<Answer>) -> usize
     requires { at + message_width ≤ length s.old }
-    ensures { Wrote s.old at message_width (msg2_bytes o) s.new result }
+    ensures { Wrote s.old at message_width (msg2_bytes o.now) s.new result }
 {
     match o {
         Some(x) => put_message(s, at, x.msg2),
@@ -65,8 +66,8 @@ pub fn put_leg(s: &mut [u8], at: usize, l: Leg) -> usize
     requires leg_width_in_bounds { at + leg_width ≤ length s.old }
     ensures { Wrote s.old at leg_width (leg_bytes l) s.new result }
 {
-    let a = put_times(s, at, l);
-    let b = put_ends(s, a, l);
+    let a = put_times(s, at, &l);
+    let b = put_ends(s, a, &l);
     let c = put_message(s, b, l.msg1);
-    put_msg2(s, c, l.answer)
+    put_msg2(s, c, &l.answer)
 }

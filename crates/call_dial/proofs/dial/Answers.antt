@@ -5,7 +5,7 @@ use Rattle.table_layout.specs.View.{view_table}
 use Rattle.call_contract.specs.Sound.{legs_room}
 use Rattle.call_contract.specs.Did.{space_place, space_result, ruled_is, ruled_ok, ruled_refused}
 use Rattle.call_limits.specs.Enter.{next_room}
-use Rattle.call_dial.specs.Dial.{dial_exhausted, dial_refused, dial_passed}
+use Rattle.call_dial.specs.Dial.{dial_exhausted, dial_error, dial_passed}
 use Rattle.call_dial.proofs.dial.Goals as goal
 
 pub returns-then-numbers_exhausted : goal.returns-then-numbers_exhausted
@@ -15,7 +15,7 @@ pub returns-in_err-room_refusal : goal.returns-in_err-room_refusal
 returns-in_err-room_refusal c =
     rw (passed c.from_residual.ensures.1) (
     ruled_is (ruled_refused _ c.requires.ready.fit (space_place c.requires.space))
-    (sym (dial_refused _ _ _ _ _ _ c.numbers_exhausted.ensures c.if-numbers_exhausted.false _ c.in_err-room_refusal.ensures))
+    (sym (dial_error _ _ _ _ _ _ c.numbers_exhausted.ensures c.if-numbers_exhausted.false _ c.in_err-room_refusal.ensures))
     )
 
 pub open_dial-requires : goal.open_dial-requires

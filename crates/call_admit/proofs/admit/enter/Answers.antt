@@ -4,13 +4,13 @@ use Rattle.refusal.specs.Passed.{passed}
 use Rattle.table_layout.specs.View.{view_table}
 use Rattle.call_contract.specs.Sound.{legs_room}
 use Rattle.call_contract.specs.Did.{space_place, space_result, ruled_ok, ruled_refused, ruled_is}
-use Rattle.call_limits.specs.Enter.{entering_passed, entering_refused}
+use Rattle.call_limits.specs.Enter.{entering_passed, entering_error}
 use Rattle.call_admit.proofs.admit.enter.Goals as goal
 
 pub returns-in_err-room_refusal : goal.returns-in_err-room_refusal
 returns-in_err-room_refusal c =
     rw (passed c.from_residual.ensures.1)
-    (ruled_is (ruled_refused _ c.requires.ready.fit (space_place c.requires.space)) (sym (entering_refused _ c.in_err-room_refusal.ensures _)))
+    (ruled_is (ruled_refused _ c.requires.ready.fit (space_place c.requires.space)) (sym (entering_error _ c.in_err-room_refusal.ensures _)))
 
 pub answer-requires : goal.answer-requires
 answer-requires c =
