@@ -114,7 +114,7 @@ abbrev pub to_look : Option ℕ → LinkRec → ℕ
 to_look (Some i) r = length r.paths + 1
 to_look None r = 0
 
-length_reach : (p : Pair) (r : LinkRec) → length (reach p r) ≡ length r.paths + 1
+pub length_reach : (p : Pair) (r : LinkRec) → length (reach p r) ≡ length r.paths + 1
 length_reach p r = rw (length-map, add-one)
 
 to_look_lem : (f : Option ℕ) (p : Pair) (r : LinkRec) → to_look f r ≡ length (looked f (reach p r))
