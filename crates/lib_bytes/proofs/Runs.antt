@@ -44,7 +44,7 @@ module _ (n : ℕ) (s : List ℕ) (at : ℕ) (t : List ℕ) (from : ℕ) where
           let f = l.fits in
           let k : n - 8 + (i - (n - 8)) ≡ i = omega arith in
           let z : (same (take (n - 8) (drop at s)) (take (n - 8) (drop from t)) && alike (n - 8) (i - (n - 8))) ≡ true =
-              sym (parts (n - 8) (i - (n - 8)) (omega arith)) ∙ (rw (← k) at l.is) in
+          sym (parts (n - 8) (i - (n - 8)) (omega arith)) ∙ (rw (← k) at l.is) in
           let y : same (take (n - 8) (drop at s)) (take (n - 8) (drop from t)) ≡ true = front (same (take (n - 8) (drop at s)) (take (n - 8) (drop from t))) (alike (n - 8) (i - (n - 8))) z in
           let w : n - (n - 8) ≡ 8 = omega arith in
           e ∙ sym (rw (whole (n - 8) (omega arith), y, w))
