@@ -1,2 +1,1 @@
 pub mod Start
-pub mod Bytes

@@ -22,6 +22,18 @@ pub enum Kind {
     New = 17,
 }
 
+impl Kind {
+    ghost use Rattle.std.specs.Prelude.{◌≡◌};
+    ghost use Rattle.input_frame.specs.Kind.{code_of};
+
+    // Its byte.
+    pub fn byte(self) -> u8
+        ensures { result ≡ code_of self }
+    {
+        self as u8
+    }
+}
+
 // A byte that is no kind.
 #[derive(Clone, Copy, PartialEq, Eq)]
 pub struct UnknownKind(pub u8);

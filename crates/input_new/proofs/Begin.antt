@@ -13,11 +13,11 @@ use Rattle.input_cursor.proofs.Field.{bound, bound_none, coded}
 use Rattle.input_call.proofs.Read.{gave, told, whole_none, whole_over, whole}
 use Rattle.input_frame.specs.Frame.{heading, framed_is}
 use Rattle.params.specs.View.{view_params}
-use Rattle.refusal.specs.declared.Refusal.{Refusal}
 use Rattle.refusal.specs.Code.{code}
 use Rattle.refusal.proofs.Codes.{code_some}
 use Rattle.input_new.specs.declared.New as news
-use Rattle.input_new.specs.Begin.{new_number, begin_of, Begins, News}
+use Rattle.input_new.specs.declared.NewRefusal.{NewRefusal}
+use Rattle.input_new.specs.Begin.{new_number, begin_of, refusal_of, Begins, News}
 
 -- ---- the form
 abbrev pub forms : List (Reader Params)
@@ -64,11 +64,11 @@ module _ {s : Bytes} where
         new_all now n t h = record { is = (now, begun ∙ whole st t h) }
 
 -- what the entry of new does with it
-abbrev pub started : Result news.New Refusal → Start
+abbrev pub started : Result news.New NewRefusal → Start
 started (Ok n) = Made (new_table n.me.0 n.first (view_params n.params))
-started (Err r) = Refused (code r)
+started (Err r) = Refused (code (refusal_of r))
 
-pub news_start : {s : Bytes} (r : Result news.New Refusal) → News s r → new s ≡ started r
+pub news_start : {s : Bytes} (r : Result news.New NewRefusal) → News s r → new s ≡ started r
 unfolding new
 news_start (Ok n) w = rw w.is.1 (go (out_of_range (view_params n.params)) refl)
   where
@@ -84,4 +84,4 @@ news_start {s} (Err r) w = rw w.number (go (read_new s) refl)
       where
         ranged : (o : Bool) → out_of_range b.params ≡ o → (if o then Refused 1 else Made (new_table b.me b.first b.params)) ≡ Refused (if o then 1 else 0)
         ranged true f = refl
-        ranged false f = absurd (let z : code r ≡ 0 = w.number ∙ rw (e, f) in omega (arith, z, code_some r))
+        ranged false f = absurd (let z : code (refusal_of r) ≡ 0 = w.number ∙ rw (e, f) in omega (arith, z, code_some (refusal_of r)))

@@ -1,11 +1,11 @@
 // The record of new: its clock, which nothing uses, me, the first link number, and the settings by their form.
 #![tactic(auto)]
 
-ghost use Rattle.std.specs.Prelude.{option_map};
+ghost use Rattle.std.specs.Prelude.{◌≡◌, option_map};
 ghost use Rattle.rules.specs.Record.{settings, form};
 ghost use Rattle.input_cursor.specs.Took.{Took};
 ghost use Rattle.params.specs.View.{view_params};
-ghost use Rattle.input_new.specs.Begin.{Begins, News};
+ghost use Rattle.input_new.specs.Begin.{Begins, News, refusal_of};
 
 use input_cursor::Cursor;
 use input_frame::kind::Kind;
@@ -19,6 +19,24 @@ pub struct New {
     pub me: NodeAddr,
     pub first: u64,
     pub params: Params,
+}
+
+// Why a record makes no table. Settings out of range are those of a record of new all the same, and what was read goes with them.
+#[derive(Clone, Copy)]
+pub enum NewRefusal {
+    Record,
+    Settings(New),
+}
+
+impl From<NewRefusal> for Refusal {
+    ghost from_gives = { λ r e. e ≡ refusal_of r };
+
+    fn from(r: NewRefusal) -> Refusal {
+        match r {
+            NewRefusal::Record => Refusal::Record,
+            NewRefusal::Settings(_) => Refusal::Settings,
+        }
+    }
 }
 
 // The settings of form 1: seven spans of 8 bytes, silent 4, resends 4, replays 1, counted 1, pending 8.
@@ -71,12 +89,12 @@ pub fn new_fields(rec: &[u8]) -> Option<New>
 }
 
 // The same, with its settings within range; or why it is refused.
-pub fn read_new(rec: &[u8]) -> Result<New, Refusal>
+pub fn read_new(rec: &[u8]) -> Result<New, NewRefusal>
     ensures { News rec.now result }
 {
-    let new = new_fields(rec).ok_or(Refusal::Record)?;
+    let new = new_fields(rec).ok_or(NewRefusal::Record)?;
     if !in_range(new.params) {
-        return Err(Refusal::Settings);
+        return Err(NewRefusal::Settings(new));
     }
     Ok(new)
 }

@@ -18,7 +18,8 @@ use Rattle.params.specs.View.{view_params}
 use Rattle.refusal.specs.declared.Refusal.{Refusal}
 use Rattle.refusal.specs.Code.{code}
 use Rattle.refusal.proofs.Codes.{code_some}
-use Rattle.input_new.specs.Begin.{News}
+use Rattle.input_new.specs.Begin.{News, refusal_of}
+use Rattle.input_new.specs.declared.NewRefusal.{NewRefusal}
 use Rattle.input_new.proofs.Begin.{news_start}
 use Rattle.input_new.specs.declared.New as news
 use Rattle.table_layout.specs.View.{view_table, Told}
@@ -112,10 +113,10 @@ begun_made {s = s} {t'} {r} w b k =
     let m : rule.new s ≡ Made (view_table t') = news_start (Ok r) w ∙ rw k.shows in
     record { is = m; refused = λ z. absurd (z refl); left = λ z. record { fit = k.fit; bounds = bounds_new s (view_table t') b m } }
 
-pub begun_refused : {t s : Bytes} {e : Refusal} → News s (Err e) → Begun t s t (code e)
+pub begun_refused : {t s : Bytes} {e : NewRefusal} → News s (Err e) → Begun t s t (code (refusal_of e))
 begun_refused {e = e} w =
-    let h : code e ≡ 0 → ⊥ = λ z. omega (arith, z, code_some e) in
-    record { is = news_start (Err e) w ∙ rw (ne_eqb (code e) 0 h); refused = λ z. refl; left = λ z. absurd (h z) }
+    let h : code (refusal_of e) ≡ 0 → ⊥ = λ z. omega (arith, z, code_some (refusal_of e)) in
+    record { is = news_start (Err e) w ∙ rw (ne_eqb (code (refusal_of e)) 0 h); refused = λ z. refl; left = λ z. absurd (h z) }
 
 -- ---- what is known of each byte of a slice
 pub all_bytes : (s : Bytes) → ((i : ℕ) → Fits w8 (get_or s i 0)) → All IsByte s

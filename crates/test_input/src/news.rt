@@ -2,6 +2,7 @@
 use crate::show::{byte, end_line, first, lease, peer, word};
 use input_new::{new_fields, read_new};
 use params::Params;
+use refusal::Refusal;
 
 fn spans(p: Params) {
     word(p.unheard);
@@ -25,7 +26,7 @@ fn counts(p: Params) {
 pub fn new_line(s: &[u8]) {
     match read_new(s) {
         Ok(_) => first(0),
-        Err(r) => first(r as u8),
+        Err(r) => first(Refusal::from(r) as u8),
     }
     if let Some(new) = new_fields(s) {
         peer(new.me);
