@@ -38,8 +38,8 @@ fn list_once(l: &mut Closes, p: Pair)
 }
 
 // The addresses of a record: its setup, then its paths, once each.
-fn address_list(r: LinkRec) -> Closes
-    ensures { view_closes result ≡ addresses (view_link r) }
+fn address_list(r: &LinkRec) -> Closes
+    ensures { view_closes result ≡ addresses (view_link r.now) }
 {
     let mut out = no_closes();
     out.push(r.setup);
@@ -50,13 +50,12 @@ fn address_list(r: LinkRec) -> Closes
     out
 }
 
-// Those of the list that no link uses.
-fn unused(s: &[u8], mut l: Closes) -> Closes
+// Those of the list stay that no link uses.
+fn unused(s: &[u8], l: &mut Closes)
     requires { FitLinks s.now }
-    ensures { view_closes result ≡ keep (λ p. not (in_use p (view_links s.now))) (view_closes l) }
+    ensures { view_closes l.new ≡ keep (λ p. not (in_use p (view_links s.now))) (view_closes l.old) }
 {
     l.retain(|p| !in_use(s, *p));
-    l
 }
 
 // Link n goes; its addresses that no other link uses are to close.
@@ -69,9 +68,10 @@ pub fn retire(s: &mut [u8], n: LinkNo) -> Closes
     let Some(i) = find_link(s, n) else {
         return no_closes();
     };
-    let l = address_list(get_link(s, i));
+    let mut l = address_list(&get_link(s, i));
     remove_link(s, i);
-    unused(s, l)
+    unused(s, &mut l);
+    l
 }
 
 // Link n's bundle released its path at the pair; `keep`: the peer may still send there. Whether the pair is to close.

@@ -13,7 +13,7 @@ use Rattle.links.proofs.close.address_list.Goals as goal
 pub loop-w-init : goal.loop-w-init
 loop-w-init c =
     rw c.as_slice-paths.ensures.value
-    (listing_start c.args.r (rw (c.push.ensures.items, map-append view_pair c.no_closes-out.result.items (c.args.r.setup ∷ []), c.no_closes-out.ensures)))
+    (listing_start c.args.r.now (rw (c.push.ensures.items, map-append view_pair c.no_closes-out.result.items (c.args.r.now.setup ∷ []), c.no_closes-out.ensures)))
 
 pub list_once-requires : goal.list_once-requires
 list_once-requires c = omega (arith, c.loop-w.invariant.few, c.as_slice-paths.ensures.fits, c.loop-w-test.true)

@@ -10,4 +10,4 @@ use Rattle.links.proofs.close.unused.Goals as goal
 
 pub returns : goal.returns
 returns c =
-    ap (map view_pair) (filter_same _ (λ x. not (in_use (view_pair x) (view_links c.args.s.now))) _ (λ x b f' k. search rules) _ _ c.retain.ensures.filtered) ∙ filter_map (λ p. not (in_use p (view_links c.args.s.now))) view_pair c.args.l.items
+    ap (map view_pair) (filter_same _ (λ x. not (in_use (view_pair x) (view_links c.args.s.now))) _ (λ x b f' k. search rules) _ _ c.retain.ensures.filtered) ∙ filter_map (λ p. not (in_use p (view_links c.args.s.now))) view_pair c.args.l.now.items
