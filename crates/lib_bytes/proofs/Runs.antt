@@ -1,8 +1,8 @@
 -- Runs of n bytes compared word by word: the first i are the same, and what follows decides.
 use Rattle.std.specs.Prelude.{◌≡◌, refl, ℕ, ◌+◌, ◌-◌, ◌≤◌, Bool, true, false, ◌&&◌, List, length, take, drop}
-use Rattle.std.proofs.Common.{arith, sym, ◌∙◌, drop-drop, take-add, length-take-le, length-drop}
+use Rattle.std.proofs.Common.{arith, sym, ◌∙◌}
 use Rattle.rules.specs.Base.{same}
-use Rattle.lib_laws.specs.Words.{same_append}
+use Rattle.lib_laws.specs.Words.{same_runs}
 
 module _ (n : ℕ) (s : List ℕ) (at : ℕ) (t : List ℕ) (from : ℕ) where
   -- whether the j bytes behind the first i are the same
@@ -23,11 +23,7 @@ module _ (n : ℕ) (s : List ℕ) (at : ℕ) (t : List ℕ) (from : ℕ) where
   module _ (r : at + n ≤ length s) (q : from + n ≤ length t) where
     -- a run in two parts
     parts : (i j : ℕ) → i + j ≤ n → same (take (i + j) (drop at s)) (take (i + j) (drop from t)) ≡ (same (take i (drop at s)) (take i (drop from t)) && alike i j)
-    parts i j h =
-        let x : length (take i (drop at s)) ≡ i = length-take-le i (drop at s) (rw length-drop (omega arith)) in
-        let y : length (take i (drop from t)) ≡ i = length-take-le i (drop from t) (rw length-drop (omega arith)) in
-        rw (take-add i j (drop at s), take-add i j (drop from t), drop-drop i at s, drop-drop i from t)
-        (same_append (take i (drop at s)) (take i (drop from t)) (take j (drop (at + i) s)) (take j (drop (from + i) t)) (x ∙ sym y))
+    parts i j h = same_runs i j s at t from (omega arith) (omega arith)
 
     whole : (i : ℕ) → i ≤ n → same (take n (drop at s)) (take n (drop from t)) ≡ (same (take i (drop at s)) (take i (drop from t)) && alike i (n - i))
     whole i h = let k : i + (n - i) ≡ n = omega arith in (rw k at (parts i (n - i) (omega arith)))

@@ -102,6 +102,15 @@ same_append (a ∷ xs) (b ∷ ys) us vs e = go (eqb a b) (same_append xs ys us v
     go true r = r
     go false r = refl
 
+-- at places of two slices
+pub same_runs : (k m : ℕ) (s : List ℕ) (at : ℕ) (t : List ℕ) (from : ℕ) → at + k ≤ length s → from + k ≤ length t
+    → same (take (k + m) (drop at s)) (take (k + m) (drop from t)) ≡ (same (take k (drop at s)) (take k (drop from t)) && same (take m (drop (at + k) s)) (take m (drop (from + k) t)))
+same_runs k m s at t from h g =
+    let x : length (take k (drop at s)) ≡ k = length-take-le k (drop at s) (rw length-drop (omega arith)) in
+    let y : length (take k (drop from t)) ≡ k = length-take-le k (drop from t) (rw length-drop (omega arith)) in
+    rw (take-add k m (drop at s), take-add k m (drop from t), drop-drop k at s, drop-drop k from t) (
+    same_append (take k (drop at s)) (take k (drop from t)) (take m (drop (at + k) s)) (take m (drop (from + k) t)) (x ∙ sym y))
+
 pub before_append : (xs ys us vs : List ℕ) → length xs ≡ length ys → before (xs ++ us) (ys ++ vs) ≡ (if same xs ys then before us vs else before xs ys)
 before_append [] [] us vs e = refl
 before_append [] (b ∷ ys) us vs e = absurd (omega arith)

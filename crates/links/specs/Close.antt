@@ -1,11 +1,11 @@
 -- The list of the connections to close: the addresses of a record once each, and those that no link uses.
-use Rattle.std.specs.Prelude.{◌≡◌, Bool, ◌||◌, ℕ, suc, ◌+◌, ◌≤◌, ◌<◌, length, get_or, if◌then◌else◌, ◌&&◌, eqb, None, Some}
+use Rattle.std.specs.Prelude.{◌≡◌, Bool, ◌||◌, ℕ, suc, ◌+◌, ◌≤◌, ◌<◌, length, get_or, if◌then◌else◌, None, Some}
 use Rattle.std.proofs.Math.Path.{refl, sym, ap}
 use Rattle.std.proofs.Common.{◌∙◌, add-one, arith, lit≤, drop-cons, length-append, drop_of_length-le}
 use Rattle.std.proofs.Math.Bool.{true, false, not}
 use mathlib.Core.List.{List, [], ◌∷◌, ◌++◌, map, append_assoc, append-nil}
 use Rattle.std.proofs.Math.ListN.{drop}
-use Rattle.rules.specs.Base.{any, keep, same}
+use Rattle.rules.specs.Base.{any, keep}
 use Rattle.rules.specs.Data.{Pair, same_pair, PathRec, LinkRec}
 use Rattle.rules.specs.Links.{numbered, in_use, once, addresses, retiring, released, releasing}
 use Rattle.lib_laws.specs.Shift.{erase}
@@ -13,15 +13,6 @@ use Rattle.lib_laws.specs.Scan.{scan}
 use Rattle.lib_laws.specs.Place.{find_at, find_nowhere, any_at, any_nowhere, without_at}
 use Rattle.node_addr.specs.View.{view_pair}
 use Rattle.links_entry.specs.View.{no_link, view_path, view_link}
-use Rattle.std.specs.Cmp.Lexicographic.{pointwise}
-use Rattle.lib_laws.specs.Numbers.{same_pointwise}
-use Rattle.node_addr.specs.Alike.{same_arrays, same_unlike}
-use Rattle.node_addr.proofs.Filled.{kept_padded}
-use Rattle.node_addr.specs.Padded.{view}
-use Rattle.node_addr.specs.declared.padded.Padded.{Padded}
-use Rattle.node_addr.specs.declared.Pair as pair
-use Rattle.std.proofs.Common.{eqb-true}
-use Rattle.std.proofs.lemmas.Bool.{eqb-false}
 use Rattle.links_entry.specs.declared.record.Path as path
 use Rattle.links_entry.specs.declared.record.LinkRec as linkrec
 
@@ -51,12 +42,12 @@ pub record Listing (T xs : List Pair) (j : ℕ) (out : List Pair) : Type 0 where
   pub left : out ++ once out (drop j xs) ≡ T
 
 module _ {T xs : List Pair} {j : ℕ} {out : List Pair} (a : Listing T xs j out) where
-  pub listing_turn : {p : Pair} {new : List Pair} → j < length xs → p ≡ get_or xs j p → new ≡ (if any (same_pair p) out then out else (out ++ (p ∷ []))) → Listing T xs (j + 1) new
+  pub listing_turn : (d : Pair) {p : Pair} {new : List Pair} → j < length xs → p ≡ get_or xs j d → new ≡ (if any (same_pair p) out then out else (out ++ (p ∷ []))) → Listing T xs (j + 1) new
   unfolding once
-  listing_turn {p} {new} h q e = record {
+  listing_turn d {p} {new} h q e = record {
     within = omega arith;
     few = rw e (count (any (same_pair p) out));
-    left = rw (e, add-one) (go (any (same_pair p) out) refl) ∙ (rw (drop-cons xs j p h, ← q) at a.left);
+    left = rw (e, add-one) (go (any (same_pair p) out) refl) ∙ (rw (drop-cons xs j d h, ← q) at a.left);
   }
     where
       count : (b : Bool) → length (if b then out else (out ++ (p ∷ []))) ≤ j + 1 + 1
@@ -75,13 +66,18 @@ module _ {T xs : List Pair} {j : ℕ} {out : List Pair} (a : Listing T xs j out)
   unfolding once
   listing_end p = sym (sym a.left ∙ rw (drop_of_length-le xs {i = j} p, append-nil))
 
+-- it stands at the paths of a link, whose setup is listed
+pub listing_from : (r : LinkRec) {out : List Pair} → out ≡ r.setup ∷ [] → Listing (addresses r) (map (λ (w : PathRec). w.pair) r.paths) 0 out
+unfolding once addresses
+listing_from r e = record { within = omega arith; few = rw e (lit≤ tt); left = rw e }
+
+-- and at those of a record by value
 pub map_pairs : (ps : List path.Path) → map (λ (w : PathRec). w.pair) (map view_path ps) ≡ map (λ (w : path.Path). view_pair w.pair) ps
 map_pairs [] = refl
 map_pairs (w ∷ ps) = ap (λ (s : List Pair). view_pair w.pair ∷ s) (map_pairs ps)
 
 pub listing_start : (r : linkrec.LinkRec) {out : List Pair} → out ≡ view_pair r.setup ∷ [] → Listing (addresses (view_link r)) (map (λ (w : path.Path). view_pair w.pair) r.paths.items) 0 out
-unfolding once addresses
-listing_start r e = record { within = omega arith; few = rw e (lit≤ tt); left = rw (e, ← map_pairs r.paths.items) }
+listing_start r e = rw map_pairs at (listing_from (view_link r) e)
 
 -- ---- what a retired link, and a released path, leave to close
 module _ (n : ℕ) (xs : List LinkRec) where

@@ -1,16 +1,15 @@
 // The connections that a link leaves to close.
-ghost use Rattle.std.specs.Prelude.{◌≡◌, not, [], ◌∷◌, ◌++◌, ◌<◌, length, if◌then◌else◌};
+ghost use Rattle.std.specs.Prelude.{◌≡◌, not, [], ◌∷◌, ◌++◌, ◌<◌, length, get_or, if◌then◌else◌};
 ghost use Rattle.rules.specs.Base.{any, keep};
 ghost use Rattle.rules.specs.Data.{same_pair};
 ghost use Rattle.rules.specs.Links.{in_use, addresses, retired, retiring, released, releasing};
 ghost use Rattle.node_addr.specs.View.{view_pair};
-ghost use Rattle.links_entry.specs.View.{FitLinks, view_links, view_link};
+ghost use Rattle.links_entry.specs.View.{FitLinks, view_links, link_count, no_link};
 ghost use Rattle.links.specs.View.{view_closes};
 
 use crate::record::Closes;
 use crate::write::{release_at, remove_link};
-use links_entry::read::{find_link, get_link, in_use};
-use links_entry::record::LinkRec;
+use links_entry::read::{find_link, in_use, path_count_at, path_pair_at, setup_at};
 use node_addr::{LinkNo, Pair};
 
 // By a name, for what it shows.
@@ -37,15 +36,17 @@ fn list_once(l: &mut Closes, p: Pair)
     }
 }
 
-// The addresses of a record: its setup, then its paths, once each.
-fn address_list(r: &LinkRec) -> Closes
-    ensures { view_closes result ≡ addresses (view_link r.now) }
+// The addresses of the link at a place: its setup, then its paths, once each.
+fn address_list(s: &[u8], i: usize) -> Closes
+    requires fit_links { FitLinks s.now }
+    requires i_bound { i < link_count s.now }
+    ensures { view_closes result ≡ addresses (get_or (view_links s.now) i no_link) }
 {
     let mut out = no_closes();
-    out.push(r.setup);
-    let paths = r.paths.as_slice();
-    for w in paths {
-        list_once(&mut out, w.pair);
+    out.push(setup_at(s, i));
+    let n = path_count_at(s, i);
+    for j in 0..n {
+        list_once(&mut out, path_pair_at(s, i, j));
     }
     out
 }
@@ -68,7 +69,7 @@ pub fn retire(s: &mut [u8], n: LinkNo) -> Closes
     let Some(i) = find_link(s, n) else {
         return no_closes();
     };
-    let mut l = address_list(&get_link(s, i));
+    let mut l = address_list(s, i);
     remove_link(s, i);
     unused(s, &mut l);
     l

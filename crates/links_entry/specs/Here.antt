@@ -203,9 +203,9 @@ module _ {s : Bytes} {i : ℕ} (f : FitLinks s) (h : i < link_count s) where
   pub path_lent : {j : ℕ} → j < length (get_or (view_links s) i no_link).paths → j < path_count (take (span i) (drop (i * link_width + at_paths) s))
   path_lent {j} l = rw (span_is i) (subst (λ (n : ℕ). j < n) paths_length l)
 
-  pub path_is : {j : ℕ} (g : PathRec → Bool) {b : Bool} → j < length (get_or (view_links s) i no_link).paths
+  pub path_is : {A : Type 0} {j : ℕ} (g : PathRec → A) {b : A} → j < length (get_or (view_links s) i no_link).paths
       → b ≡ g (path_of (get_or (chunks path_width path_cap (take (span i) (drop (i * link_width + at_paths) s))) j [])) → b ≡ g (get_or (get_or (view_links s) i no_link).paths j no_path)
-  path_is {j} g l e =
+  path_is {j = j} g l e =
       (rw (span_is i) at e)
       ∙ ap g (shown path_of j [] no_path (paths_fit f h).kept (subst (λ (n : ℕ). j < n) paths_length l) ∙ ap (λ (ws : List PathRec). get_or ws j no_path) (paths_here f h))
 

@@ -167,6 +167,15 @@ fn state_at(s: &[u8], j: usize) -> Proven
     Proven::try_from(code).unwrap()
 }
 
+// The pair of the path at a place.
+pub(crate) fn pair_at(s: &[u8], j: usize) -> Pair
+    requires fit_paths { FitPaths s.now }
+    requires j_bound { j < path_count s.now }
+    ensures { view_pair result ≡ (path_of (get_or (chunks path_width path_cap s.now) j [])).pair }
+{
+    load_pair(s, j * PATH_WIDTH)
+}
+
 // The path at a place, by value.
 fn load_path(s: &[u8], j: usize) -> Path
     requires fit_paths { FitPaths s.now }
@@ -174,7 +183,7 @@ fn load_path(s: &[u8], j: usize) -> Path
     ensures { view_path result ≡ path_of (get_or (chunks path_width path_cap s.now) j []) }
 {
     Path {
-        pair: load_pair(s, j * PATH_WIDTH),
+        pair: pair_at(s, j),
         state: state_at(s, j),
     }
 }

@@ -13,7 +13,7 @@ use crate::layout::{
     DIR, HOLDER, HOLDER_PEER, LINK_COUNT, LINK_PATH_COUNT, LINK_WIDTH, PATHS, PATHS_LEN, RELEASED,
     SETUP,
 };
-use crate::paths::{full_at, load_paths, proves, wire_proven_path};
+use crate::paths::{full_at, load_paths, pair_at, proves, wire_proven_path};
 use crate::record::{Dir, Holder, LinkRec};
 use lib_bytes::layout::U64;
 use lib_bytes::read::{get_be, get_byte};
@@ -130,6 +130,18 @@ pub fn wire_proven_at(s: &[u8], i: usize, j: usize, rec: &[u8], from: usize) -> 
     let first = i * LINK_WIDTH + PATHS;
     let end = first + PATHS_LEN;
     wire_proven_path(&s[first..end], j, rec, from)
+}
+
+// The pair of the j-th path of the link at a place.
+pub fn path_pair_at(s: &[u8], i: usize, j: usize) -> Pair
+    requires fit_links { FitLinks s.now }
+    requires i_bound { i < link_count s.now }
+    requires j_in_bounds { j < length (get_or (view_links s.now) i no_link).paths }
+    ensures { view_pair result ≡ (get_or (get_or (view_links s.now) i no_link).paths j no_path).pair }
+{
+    let first = i * LINK_WIDTH + PATHS;
+    let end = first + PATHS_LEN;
+    pair_at(&s[first..end], j)
 }
 
 // Whether the setup of the link at a place is in use: no paths yet, or a leg holds the link.

@@ -1,6 +1,6 @@
 -- Parts of parts, runs in two parts, and what a comparison of whole buffers says of what is in use.
 use Rattle.std.specs.Prelude.{◌≡◌, refl, Bool, true, false, ◌&&◌, ℕ, ◌+◌, ◌≤◌, length, take, drop}
-use Rattle.std.proofs.Common.{sym, ap, ◌∙◌, arith, eq-eqb, ne_eqb, take-add, drop-drop, take_all, take-append-drop, length-take, length-drop}
+use Rattle.std.proofs.Common.{sym, ap, ◌∙◌, arith, eq-eqb, ne_eqb, take_all, take-append-drop}
 use Rattle.rules.specs.Base.{Bytes, same}
 use Rattle.rules.specs.Std.{before}
 use Rattle.rules.specs.Data.{Pair, same_pair}
@@ -8,15 +8,13 @@ use Rattle.lib_laws.specs.Shift.{Kept}
 pub use Rattle.lib_laws.specs.Part.{part_of}
 pub use Rattle.lib_laws.specs.Cell.{byte_here}
 use Rattle.lib_laws.specs.Buffer.{Any, kept_length}
-use Rattle.lib_laws.specs.Words.{same_append}
+use Rattle.lib_laws.specs.Words.{same_runs}
 use Rattle.lib_laws.specs.Beside.{same_yes, same_no, same_true, same_apart}
 
 -- a run in two parts
 module _ (k m : ℕ) (s : Bytes) (at : ℕ) (t : Bytes) (from : ℕ) (h : at + k ≤ length s) (g : from + k ≤ length t) where
   two_runs : same (take (k + m) (drop at s)) (take (k + m) (drop from t)) ≡ (same (take k (drop at s)) (take k (drop from t)) && same (take m (drop (at + k) s)) (take m (drop (from + k) t)))
-  two_runs =
-      rw (take-add k m (drop at s), take-add k m (drop from t), drop-drop k at s, drop-drop k from t) (
-      same_append (take k (drop at s)) (take k (drop from t)) (take m (drop (at + k) s)) (take m (drop (from + k) t)) (simp (length-take, length-drop) (omega arith)))
+  two_runs = same_runs k m s at t from h g
 
   pub first_differs : same (take k (drop at s)) (take k (drop from t)) ≡ false → false ≡ same (take (k + m) (drop at s)) (take (k + m) (drop from t))
   first_differs e = sym (two_runs ∙ rw e)

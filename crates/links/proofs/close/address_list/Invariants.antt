@@ -1,12 +1,14 @@
 -- `links::close::address_list` meets its contract.
 use Rattle.links.specs.Close.{Listing}
 use Rattle.links.specs.View.{view_closes}
-use Rattle.links_entry.specs.View.{view_link}
-use Rattle.links_entry.specs.declared.record.Path as path
-use Rattle.node_addr.specs.View.{view_pair}
+use Rattle.links_entry.specs.View.{no_link, view_links}
+use Rattle.rules.specs.Data.{PathRec}
 use Rattle.rules.specs.Links.{addresses}
 use mathlib.Core.List.{map}
+use lib.ListN.{get_or}
 use Rattle.links.proofs.close.address_list.Given as goal
 
-abbrev pub invariant-loop-w : goal.invariant-loop-w
-invariant-loop-w l = Listing (addresses (view_link l.fn.r)) (map (λ (w : path.Path). view_pair w.pair) l.paths) l.w-index (view_closes l.out)
+abbrev pub invariant-loop-j : goal.invariant-loop-j
+invariant-loop-j l =
+    let r = get_or (view_links l.fn.s) l.fn.i no_link in
+    Listing (addresses r) (map (λ (w : PathRec). w.pair) r.paths) l.j (view_closes l.out)
