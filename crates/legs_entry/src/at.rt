@@ -124,6 +124,8 @@ pub fn msg2_len_at(s: &[u8], i: usize) -> usize
 }
 
 // Whether it yields its msg2 for the n bytes from `at` on: an answer not yet sent for any, a sent one for those of its msg1.
+// Never inlined: in the search over the links it would take the registers that each link needs.
+#[inline(never)]
 pub fn stored_at(s: &[u8], i: usize, rec: &[u8], at: usize, n: usize) -> bool
     requires fit_legs { FitLegs s.now }
     requires i_bound { i < leg_count s.now }
